@@ -1,0 +1,21 @@
+//! The types that every layer speaks of: cells and bytes, what a process asks of the rendezvous machine, and what it
+//! is granted.
+//!
+//! A value is kept as cells, 64-bit signed numbers. A process asks with a [`Request`] and goes on with a [`Grant`].
+//! Processes and calls are numbered from 0 in the order in which they were made.
+#![tactic(auto)]
+
+mod alternatives;
+mod cells;
+mod memory;
+mod names;
+mod request;
+
+pub use alternatives::{Alt, Alts};
+pub use cells::{Bytes, Cells};
+pub use memory::Memory;
+pub use names::{CallId, FaultKind, Pid, Place, Shape};
+pub use request::{Grant, Request};
+
+#[cfg(test)]
+mod tests;
