@@ -1,0 +1,52 @@
+-- When a run is over, when it ends as a whole, and when nothing can go on.
+use Rattle.std.specs.Prelude.{ℕ, Bool, true, false, ◌&&◌, ◌||◌, not, List, [], ◌∷◌, Option, Some, None, is_some}
+use Rattle.std.specs.List.{list_all, list_any}
+use Rattle.cc_base.specs.Meaning.{Meaning}
+use Rattle.cc_rules.specs.Choice.{has_eligible, has_immediate, is_terminate, alternative_deadline, call_deadline, is_unsettled, some_process}
+use Rattle.cc_rules.specs.State.{Process, State, process_at, is_running, is_over, is_faulted, open_alternatives}
+use Rattle.cc_rules.specs.declared.process.ProcessStanding.{ProcessStanding}
+use Rattle.cc_rules.specs.declared.process.ProcessStanding.TheVariants.{Running, AtSelect, AtDelay, AtCall, Ended, Faulted}
+
+-- some process is running
+abbrev pub has_running : State → Bool
+has_running s = list_any (λ q. is_running q.standing) s.processes
+
+-- every process has ended, by itself or by a fault
+abbrev pub is_complete : State → Bool
+is_complete s = list_all (λ q. is_over q.standing) s.processes
+
+-- some process was stopped by a fault
+abbrev pub has_faulted : State → Bool
+has_faulted s = list_any (λ q. is_faulted q.standing) s.processes
+
+-- p waits at terminate: the alternative is open, and p can take neither a call nor an immediate alternative
+abbrev pub waits_at_terminate : Meaning → State → ℕ → Bool
+waits_at_terminate m s p =
+    list_any (λ a. is_terminate a.1) (open_alternatives (process_at s.processes p).standing)
+    && not (has_eligible m s p)
+    && not (has_immediate s p)
+
+-- the collective end is due: every process is over or waits at terminate, and at least one waits there
+abbrev pub is_due : Meaning → State → Bool
+is_due m s =
+    not (some_process (λ p. not (is_over (process_at s.processes p).standing || waits_at_terminate m s p)) s)
+    && some_process (waits_at_terminate m s) s
+
+-- a deadline stands for a process that stands so, since one of its alternatives has one or it is at a delay
+abbrev pub is_timed : ProcessStanding → Bool
+is_timed Running = false
+is_timed (AtSelect alts asked) = list_any (λ a. is_some (alternative_deadline asked a.1)) alts
+is_timed (AtDelay deadline) = true
+is_timed (AtCall call) = false
+is_timed Ended = false
+is_timed (Faulted kind) = false
+
+-- a deadline stands: of a process at a select or a delay, or of a pending call
+abbrev pub has_deadline : State → Bool
+has_deadline s =
+    list_any (λ q. is_timed q.standing) s.processes || list_any (λ call. is_some (call_deadline call.waiting)) s.pending
+
+-- nothing can go on, now or later
+abbrev pub is_stuck : Meaning → State → Bool
+is_stuck m s =
+    not (is_due m s) && not (is_complete s) && not (has_running s) && not (is_unsettled m s) && not (has_deadline s)

@@ -1,0 +1,20 @@
+//! The rendezvous machine: its events, what its processes and calls are, and the journal of a run.
+//!
+//! Processes ask, and the machine decides when calls and processes meet. What a state is, when an event is legal and
+//! what it does stand in `specs/`: `State`, `Choice`, `Effects`, `Ends`, `Events`, `Runs`.
+#![tactic(auto)]
+
+mod event;
+mod faults;
+mod journal;
+mod laws;
+mod process;
+
+pub use event::{Event, Standing, Word};
+pub use faults::Faults;
+pub use journal::Journal;
+pub use laws::runs_go_on;
+pub use process::{PendingCall, ProcessStanding, Waiting};
+
+#[cfg(test)]
+mod tests;
