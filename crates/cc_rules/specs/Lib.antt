@@ -5,3 +5,4 @@ pub mod Choice
 pub mod Ends
 pub mod Events
 pub mod Runs
+pub mod Stops
