@@ -7,7 +7,7 @@ use Rattle.cc_base.specs.declared.alternatives.Alt.{Alt}
 use Rattle.cc_base.specs.declared.alternatives.Alt.TheVariants.{Accept, After, Now, Terminate}
 use Rattle.cc_rules.specs.Effects.{deadline_after}
 use Rattle.cc_rules.specs.State.{State, process_at, open_alternatives}
-use Rattle.cc_rules.specs.declared.process.PendingCall.{PendingCall}
+use Rattle.cc_rules.specs.declared.process.TransactionCall.{TransactionCall}
 use Rattle.cc_rules.specs.declared.process.ProcessStanding.{ProcessStanding}
 use Rattle.cc_rules.specs.declared.process.ProcessStanding.TheVariants.{Running, AtSelect, AtDelay, AtCall, Ended, Faulted}
 use Rattle.cc_rules.specs.declared.process.Waiting.{Waiting}
@@ -20,7 +20,7 @@ numbered (a ∷ alts) i = if nat_eq a.0 i then Some a.1 else numbered alts i
 
 -- the rank of a call for an alternative of p: its fit, where it is a call at p of the transaction that the alternative
 -- accepts
-abbrev pub rank : Meaning → ℕ → Alt → PendingCall → Option ℤ
+abbrev pub rank : Meaning → ℕ → Alt → TransactionCall → Option ℤ
 rank m p (Accept trans site env) call =
     if nat_eq call.target.0 p && nat_eq call.trans trans then m.fit site env call.args else None
 rank m p (After wait) call = None
@@ -28,7 +28,7 @@ rank m p Now call = None
 rank m p Terminate call = None
 
 -- the call is eligible for the alternative of p
-abbrev pub is_eligible : Meaning → ℕ → Alt → PendingCall → Bool
+abbrev pub is_eligible : Meaning → ℕ → Alt → TransactionCall → Bool
 is_eligible m p alt call = is_some (rank m p alt call)
 
 -- a call of rank k and this number is the other one, or is taken before it: the other is not eligible, has a greater
@@ -38,7 +38,7 @@ goes_before k number None other = true
 goes_before k number (Some k') other = int_lt k k' || int_le k k' && nat_le number other
 
 -- the call is chosen for the alternative: it is eligible and goes before every other call
-abbrev pub is_chosen : Meaning → ℕ → Alt → List PendingCall → PendingCall → Bool
+abbrev pub is_chosen : Meaning → ℕ → Alt → List TransactionCall → TransactionCall → Bool
 is_chosen m p alt pending call =
     option_map_or
     (λ k. list_all (λ other. goes_before k call.number.0 (rank m p alt other) other.number.0) pending)
@@ -49,12 +49,6 @@ is_chosen m p alt pending call =
 abbrev pub has_eligible : Meaning → State → ℕ → Bool
 has_eligible m s p =
     list_any (λ a. list_any (is_eligible m p a.1) s.pending) (open_alternatives (process_at s.processes p).standing)
-
--- some Accept of the call is legal: it is chosen for an open alternative of its target
-abbrev pub is_acceptable : Meaning → State → PendingCall → Bool
-is_acceptable m s call =
-    list_any (λ a. is_chosen m call.target.0 a.1 s.pending call)
-    (open_alternatives (process_at s.processes call.target.0).standing)
 
 abbrev pub is_immediate : Alt → Bool
 is_immediate (Accept trans site env) = false
@@ -100,16 +94,21 @@ is_first_due moment asked alts i =
     false
 
 -- the pending call of this number
-abbrev pub call_numbered : List PendingCall → ℕ → Option PendingCall
+abbrev pub call_numbered : List TransactionCall → ℕ → Option TransactionCall
 call_numbered pending number = find (λ call. nat_eq call.number.0 number) pending
 
 -- p may take this call by its alternative i
-abbrev pub accepts : Meaning → State → ℕ → ℕ → PendingCall → Bool
+abbrev pub accepts : Meaning → State → ℕ → ℕ → TransactionCall → Bool
 accepts m s p i call =
     option_map_or
     (λ alt. is_chosen m p alt s.pending call)
     (numbered (open_alternatives (process_at s.processes p).standing) i)
     false
+
+-- some process may take this call: only its target could
+abbrev pub is_acceptable : Meaning → State → TransactionCall → Bool
+is_acceptable m s call =
+    list_any (λ a. accepts m s call.target.0 a.0 call) (open_alternatives (process_at s.processes call.target.0).standing)
 
 -- p may take its immediate alternative i
 abbrev pub takes_at_once : Meaning → State → ℕ → ℕ → Bool
@@ -135,9 +134,9 @@ call_deadline Nobody = None
 call_deadline (Caller p) = None
 call_deadline (Until p deadline) = Some deadline
 
--- the pending call is withdrawn: its deadline has come, and no process may take it
-abbrev pub is_withdrawn : Meaning → State → PendingCall → Bool
-is_withdrawn m s call =
+-- the pending call may be withdrawn: its deadline has come, and no process may take it
+abbrev pub may_withdraw : Meaning → State → TransactionCall → Bool
+may_withdraw m s call =
     option_map_or (λ deadline. nat_le deadline s.moment) (call_deadline call.waiting) false && not (is_acceptable m s call)
 
 -- the numbers by which a process may expire
@@ -153,10 +152,6 @@ expiring_numbers (Faulted kind) = []
 abbrev pub some_process : (ℕ → Bool) → State → Bool
 some_process test s = list_any (λ e. test e.0) (enumerate_from 0 s.processes)
 
--- some Accept, Instant, Expire or Withdraw is legal
-abbrev pub is_unsettled : Meaning → State → Bool
-is_unsettled m s =
-    list_any (is_acceptable m s) s.pending
-    || some_process (λ p. list_any (λ a. takes_at_once m s p a.0) (open_alternatives (process_at s.processes p).standing)) s
-    || some_process (λ p. list_any (expires m s p) (expiring_numbers (process_at s.processes p).standing)) s
-    || list_any (is_withdrawn m s) s.pending
+-- the test holds of every process, by its number
+abbrev pub every_process : (ℕ → Bool) → State → Bool
+every_process test s = list_all (λ e. test e.0) (enumerate_from 0 s.processes)

@@ -11,7 +11,7 @@ use Rattle.cc_base.specs.declared.request.Grant.TheVariants.{Go, Made, Value, Go
 use Rattle.cc_base.specs.declared.request.Request.{Request}
 use Rattle.cc_base.specs.declared.request.Request.TheVariants.{Pause, Create, Call, TimedCall, Send, Select, Delay, Reply, Print, Get, Done, Fault}
 use Rattle.cc_rules.specs.State.{Process, State, made, process_at, is_over}
-use Rattle.cc_rules.specs.declared.process.PendingCall.{PendingCall}
+use Rattle.cc_rules.specs.declared.process.TransactionCall.{TransactionCall}
 use Rattle.cc_rules.specs.declared.process.ProcessStanding.{ProcessStanding}
 use Rattle.cc_rules.specs.declared.process.ProcessStanding.TheVariants.{Running, AtSelect, AtDelay, AtCall, Ended, Faulted}
 use Rattle.cc_rules.specs.declared.process.Waiting.{Waiting}
@@ -29,16 +29,16 @@ granted q grant = record q { grants = q.grants ++ grant ∷ []; standing = Runni
 abbrev pub grant_to : List Process → ℕ → Grant → List Process
 grant_to processes p grant = set processes p (granted (process_at processes p) grant)
 
--- process p stands so
-abbrev pub standing_at : List Process → ℕ → ProcessStanding → List Process
-standing_at processes p standing = set processes p (record (process_at processes p) { standing = standing })
+-- process p with this standing
+abbrev pub with_standing : List Process → ℕ → ProcessStanding → List Process
+with_standing processes p standing = set processes p (record (process_at processes p) { standing = standing })
 
 -- a wait in milliseconds, of which a negative one counts as 0
 abbrev pub milliseconds : ℤ → ℕ
 milliseconds (pos n) = n
 milliseconds (negsuc n) = 0
 
--- the deadline of what was asked at this moment
+-- the deadline of what was asked at this moment, at most the greatest number of 64 bits
 abbrev pub deadline_after : ℕ → ℤ → ℕ
 deadline_after moment wait = min (moment + milliseconds wait) (2 ^ 64 - 1)
 
@@ -58,7 +58,7 @@ caller_of (Caller p) = Some p
 caller_of (Until p deadline) = Some p
 
 -- the caller of this call, where one waits, goes on with this grant
-abbrev pub answered : List Process → PendingCall → Grant → List Process
+abbrev pub answered : List Process → TransactionCall → Grant → List Process
 answered processes call grant =
     option_map_or
     (λ caller. if waits_for call.number.0 (process_at processes caller.0).standing then grant_to processes caller.0 grant else processes)
@@ -66,11 +66,11 @@ answered processes call grant =
     processes
 
 -- the caller of each of these calls, where one waits, goes on with Gone
-abbrev pub all_gone : List Process → List PendingCall → List Process
-all_gone processes [] = processes
-all_gone processes (call ∷ calls) = all_gone (answered processes call Gone) calls
+abbrev pub each_gets_gone : List Process → List TransactionCall → List Process
+each_gets_gone processes [] = processes
+each_gets_gone processes (call ∷ calls) = each_gets_gone (answered processes call Gone) calls
 
-abbrev pub is_for : ℕ → PendingCall → Bool
+abbrev pub is_for : ℕ → TransactionCall → Bool
 is_for p call = nat_eq call.target.0 p
 
 -- process p ends in this standing: it serves no call any more, the calls pending at it are removed, and whoever waits
@@ -79,13 +79,13 @@ abbrev pub ended : State → ℕ → ProcessStanding → State
 ended s p standing =
     record s {
       processes =
-          all_gone
+          each_gets_gone
           (set s.processes p (record (process_at s.processes p) { standing = standing; serving = [] }))
           (filter (is_for p) s.pending ++ (process_at s.processes p).serving);
       pending = filter (λ call. not (is_for p call)) s.pending;
     }
 
--- a call of p is pending, with the next number, and p stands so
+-- a call is pending with the next number, and the processes are these
 abbrev pub called : State → List Process → Pid → ℕ → List ℤ → Waiting → State
 called s processes target trans args waiting =
     record s {
@@ -108,7 +108,7 @@ abbrev pub of_cells : ℕ → List ℤ → List ℤ
 of_cells n value = take n (value ++ replicate n (pos 0))
 
 -- the calls without the innermost
-abbrev pub without_innermost : List PendingCall → List PendingCall
+abbrev pub without_innermost : List TransactionCall → List TransactionCall
 without_innermost calls = take (length calls - 1) calls
 
 -- p goes on, and answers the innermost call that it serves, where it serves one
@@ -142,20 +142,20 @@ effect m s p (Create kind args) =
     else ended s p.0 (Faulted TooMany)
 effect m s p (Call target trans args) =
     if is_there s target
-    then called s (standing_at s.processes p.0 (AtCall (record { 0 = s.drawn }))) target trans args (Caller p)
+    then called s (with_standing s.processes p.0 (AtCall (record { 0 = s.drawn }))) target trans args (Caller p)
     else record s { processes = grant_to s.processes p.0 Gone }
 effect m s p (TimedCall target trans args wait) =
     if is_there s target
     then
-    called s (standing_at s.processes p.0 (AtCall (record { 0 = s.drawn }))) target trans args
+    called s (with_standing s.processes p.0 (AtCall (record { 0 = s.drawn }))) target trans args
     (Until p (deadline_after s.moment wait))
     else record s { processes = grant_to s.processes p.0 Gone }
 effect m s p (Send target trans args) =
     if is_there s target
     then called s (grant_to s.processes p.0 Go) target trans args Nobody
     else record s { processes = grant_to s.processes p.0 Go }
-effect m s p (Select alts) = record s { processes = standing_at s.processes p.0 (AtSelect alts s.moment) }
-effect m s p (Delay wait) = record s { processes = standing_at s.processes p.0 (AtDelay (deadline_after s.moment wait)) }
+effect m s p (Select alts) = record s { processes = with_standing s.processes p.0 (AtSelect alts s.moment) }
+effect m s p (Delay wait) = record s { processes = with_standing s.processes p.0 (AtDelay (deadline_after s.moment wait)) }
 effect m s p (Reply value) = replied m s p.0 value
 effect m s p (Print bytes) = record s { processes = grant_to s.processes p.0 Go }
 effect m s p Get = record s { processes = grant_to s.processes p.0 (Byte (first_byte s.input)); input = rest_of s.input }

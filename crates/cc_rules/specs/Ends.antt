@@ -2,7 +2,7 @@
 use Rattle.std.specs.Prelude.{ℕ, Bool, true, false, ◌&&◌, ◌||◌, not, List, [], ◌∷◌, Option, Some, None, is_some}
 use Rattle.std.specs.List.{list_all, list_any}
 use Rattle.cc_base.specs.Meaning.{Meaning}
-use Rattle.cc_rules.specs.Choice.{has_eligible, has_immediate, is_terminate, alternative_deadline, call_deadline, is_unsettled, some_process}
+use Rattle.cc_rules.specs.Choice.{has_eligible, has_immediate, is_acceptable, is_terminate, alternative_deadline, call_deadline, every_process, expires, expiring_numbers, may_withdraw, some_process, takes_at_once}
 use Rattle.cc_rules.specs.State.{Process, State, process_at, is_running, is_over, is_faulted, open_alternatives}
 use Rattle.cc_rules.specs.declared.process.ProcessStanding.{ProcessStanding}
 use Rattle.cc_rules.specs.declared.process.ProcessStanding.TheVariants.{Running, AtSelect, AtDelay, AtCall, Ended, Faulted}
@@ -11,7 +11,7 @@ use Rattle.cc_rules.specs.declared.process.ProcessStanding.TheVariants.{Running,
 abbrev pub has_running : State → Bool
 has_running s = list_any (λ q. is_running q.standing) s.processes
 
--- every process has ended, by itself or by a fault
+-- every process has ended, or was stopped by a fault
 abbrev pub is_complete : State → Bool
 is_complete s = list_all (λ q. is_over q.standing) s.processes
 
@@ -26,11 +26,21 @@ waits_at_terminate m s p =
     && not (has_eligible m s p)
     && not (has_immediate s p)
 
--- the collective end is due: every process is over or waits at terminate, and at least one waits there
+-- the collective end is due: every process is over or waits at terminate, so that none is running, and at least one
+-- waits there
 abbrev pub is_due : Meaning → State → Bool
 is_due m s =
-    not (some_process (λ p. not (is_over (process_at s.processes p).standing || waits_at_terminate m s p)) s)
+    every_process (λ p. is_over (process_at s.processes p).standing || waits_at_terminate m s p) s
     && some_process (waits_at_terminate m s) s
+
+-- some Accept, Instant, Expire, Withdraw or End is legal
+abbrev pub is_unsettled : Meaning → State → Bool
+is_unsettled m s =
+    is_due m s
+    || list_any (is_acceptable m s) s.pending
+    || some_process (λ p. list_any (λ a. takes_at_once m s p a.0) (open_alternatives (process_at s.processes p).standing)) s
+    || some_process (λ p. list_any (expires m s p) (expiring_numbers (process_at s.processes p).standing)) s
+    || list_any (may_withdraw m s) s.pending
 
 -- a deadline stands for a process that stands so, since one of its alternatives has one or it is at a delay
 abbrev pub is_timed : ProcessStanding → Bool
@@ -48,5 +58,4 @@ has_deadline s =
 
 -- nothing can go on, now or later
 abbrev pub is_stuck : Meaning → State → Bool
-is_stuck m s =
-    not (is_due m s) && not (is_complete s) && not (has_running s) && not (is_unsettled m s) && not (has_deadline s)
+is_stuck m s = not (is_complete s) && not (has_running s) && not (is_unsettled m s) && not (has_deadline s)

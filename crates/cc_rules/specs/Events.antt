@@ -9,15 +9,15 @@ use Rattle.cc_base.specs.declared.request.Grant.{Grant}
 use Rattle.cc_base.specs.declared.request.Grant.TheVariants.{Go, Late, Took, Chose}
 use Rattle.cc_base.specs.declared.request.Request.{Request}
 use Rattle.cc_base.specs.declared.request.Request.TheVariants as request
-use Rattle.cc_rules.specs.Choice.{accepts, call_numbered, expires, is_unsettled, is_withdrawn, takes_at_once}
+use Rattle.cc_rules.specs.Choice.{accepts, call_numbered, expires, may_withdraw, takes_at_once}
 use Rattle.cc_rules.specs.Effects.{answered, effect, grant_to, granted}
-use Rattle.cc_rules.specs.Ends.{has_deadline, has_running, is_complete, is_due, is_stuck, waits_at_terminate}
+use Rattle.cc_rules.specs.Ends.{has_deadline, has_running, is_complete, is_due, is_stuck, is_unsettled, waits_at_terminate}
 use Rattle.cc_rules.specs.State.{Process, State, process_at, is_running}
 use Rattle.cc_rules.specs.declared.event.Event.{Event}
 use Rattle.cc_rules.specs.declared.event.Event.TheVariants.{Ask, Accept, Instant, Expire, Withdraw, Time, End}
 use Rattle.cc_rules.specs.declared.event.Word.{Word}
 use Rattle.cc_rules.specs.declared.event.Word.TheVariants as word
-use Rattle.cc_rules.specs.declared.process.PendingCall.{PendingCall}
+use Rattle.cc_rules.specs.declared.process.TransactionCall.{TransactionCall}
 use Rattle.cc_rules.specs.declared.process.ProcessStanding.{ProcessStanding}
 use Rattle.cc_rules.specs.declared.process.ProcessStanding.TheVariants.{Running, AtSelect, AtDelay, AtCall, Ended, Faulted}
 
@@ -62,7 +62,7 @@ is_allowed m s (Ask p w) = is_running (process_at s.processes p.0).standing && s
 is_allowed m s (Accept p i c) = option_map_or (accepts m s p.0 i) (call_numbered s.pending c.0) false
 is_allowed m s (Instant p i) = takes_at_once m s p.0 i
 is_allowed m s (Expire p i) = expires m s p.0 i
-is_allowed m s (Withdraw c) = option_map_or (is_withdrawn m s) (call_numbered s.pending c.0) false
+is_allowed m s (Withdraw c) = option_map_or (may_withdraw m s) (call_numbered s.pending c.0) false
 is_allowed m s (Time t) =
     nat_le s.moment t
     && not (is_unsettled m s)
@@ -84,11 +84,11 @@ is_end End = true
 abbrev pub is_legal : Meaning → State → Event → Bool
 is_legal m s event = if is_due m s then is_end event else is_allowed m s event
 
-abbrev pub without_call : List PendingCall → PendingCall → List PendingCall
+abbrev pub without_call : List TransactionCall → TransactionCall → List TransactionCall
 without_call pending call = filter (λ other. not (nat_eq other.number.0 call.number.0)) pending
 
 -- p serves the call, which it took by its alternative i
-abbrev pub accepted : State → ℕ → ℕ → PendingCall → State
+abbrev pub accepted : State → ℕ → ℕ → TransactionCall → State
 accepted s p i call =
     let q = process_at s.processes p in
     record s {
@@ -106,17 +106,17 @@ expiry_grant i Ended = Chose i
 expiry_grant i (Faulted kind) = Chose i
 
 -- the call is removed, and its caller goes on
-abbrev pub withdrawn : State → PendingCall → State
+abbrev pub withdrawn : State → TransactionCall → State
 withdrawn s call = record s { processes = answered s.processes call Late; pending = without_call s.pending call }
 
--- every process that waits at terminate has ended, and no call is pending
+-- every process that waits at terminate has ended and serves no call, and no call is pending
 abbrev pub all_ended : Meaning → State → State
 all_ended m s =
     record s {
       processes =
-          map (λ e. if waits_at_terminate m s e.0 then record e.1 { standing = Ended } else e.1) (enumerate_from 0 s.processes);
+          map (λ e. if waits_at_terminate m s e.0 then record e.1 { standing = Ended; serving = [] } else e.1) (enumerate_from 0 s.processes);
       pending = [];
-      has_ended = true;
+      end_taken = true;
     }
 
 -- what the event does, apart from the mark of the last event

@@ -39,9 +39,19 @@ is_turn End = false
 abbrev pub turns : List Event → ℕ
 turns events = count_by is_turn events
 
--- the state is settled: no event but a turn is legal
+-- an event by which the machine settles: it is decided without a process or the clock
+abbrev pub is_settling : Event → Bool
+is_settling (Ask p w) = false
+is_settling (Accept p i c) = true
+is_settling (Instant p i) = true
+is_settling (Expire p i) = true
+is_settling (Withdraw c) = true
+is_settling (Time t) = false
+is_settling End = true
+
+-- the state is settled: no Accept, Instant, Expire, Withdraw or End is legal
 abbrev pub IsSettled : Meaning → State → Type 0
-IsSettled m s = (event : Event) → is_turn event ≡ false → is_legal m s event ≡ false
+IsSettled m s = (event : Event) → is_settling event ≡ true → is_legal m s event ≡ false
 
 -- the state is settled before each turn, and at the end
 abbrev pub IsSettledFrom : Meaning → State → List Event → Type 0

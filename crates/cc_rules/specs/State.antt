@@ -4,7 +4,7 @@ use Rattle.cc_base.specs.declared.alternatives.Alt.{Alt}
 use Rattle.cc_base.specs.declared.names.Pid.{Pid}
 use Rattle.cc_base.specs.declared.request.Grant.{Grant}
 use Rattle.cc_base.specs.declared.request.Grant.TheVariants.{Go}
-use Rattle.cc_rules.specs.declared.process.PendingCall.{PendingCall}
+use Rattle.cc_rules.specs.declared.process.TransactionCall.{TransactionCall}
 use Rattle.cc_rules.specs.declared.process.ProcessStanding.{ProcessStanding}
 use Rattle.cc_rules.specs.declared.process.ProcessStanding.TheVariants.{Running, AtSelect, AtDelay, AtCall, Ended, Faulted}
 
@@ -15,13 +15,13 @@ pub record Process : Type 0 where
   pub grants : List Grant
   pub standing : ProcessStanding
   -- the calls that it is serving, innermost last
-  pub serving : List PendingCall
+  pub serving : List TransactionCall
 
 pub record State : Type 0 where
   -- the processes in the order made
   pub processes : List Process
   -- the pending calls in the order asked
-  pub pending : List PendingCall
+  pub pending : List TransactionCall
   -- the input that is left
   pub input : List ℕ
   -- the moment, in milliseconds
@@ -29,7 +29,7 @@ pub record State : Type 0 where
   -- the last event was a Time
   pub after_time : Bool
   -- End was taken
-  pub has_ended : Bool
+  pub end_taken : Bool
   -- how many call numbers were drawn: the number of the next call
   pub drawn : ℕ
 
@@ -46,7 +46,7 @@ first_state input =
       input = input;
       moment = 0;
       after_time = false;
-      has_ended = false;
+      end_taken = false;
       drawn = 0;
     }
 
@@ -74,7 +74,7 @@ is_faulted (AtCall call) = false
 is_faulted Ended = false
 is_faulted (Faulted kind) = true
 
--- it has ended, by itself or by a fault
+-- it has ended, or was stopped by a fault
 abbrev pub is_over : ProcessStanding → Bool
 is_over Running = false
 is_over (AtSelect alts asked) = false

@@ -9,7 +9,7 @@ use Rattle.cc_rules.specs.declared.event.Event.{Event}
 use Rattle.cc_rules.specs.declared.event.Event.TheVariants.{Ask}
 use Rattle.cc_rules.specs.declared.event.Word.TheVariants as word
 
--- every process has ended by itself
+-- every process has ended, none by a fault
 pub record EndsWell (m : Meaning) (input : List ℕ) (events : List Event) : Type 0 where
   pub complete : is_complete (state_after m input events) ≡ true
   pub no_fault : has_faulted (state_after m input events) ≡ false

@@ -48,13 +48,14 @@ impl Faults {
         self.items.get(at)
     }
 
-    /// Puts a process of greater number at the end. After an error the list is as before.
+    /// Puts a process of greater number at the end. After an error nothing has changed.
     pub fn push(&mut self, item: (Pid, FaultKind)) -> Result<(), Memory>
         requires { All (λ f. f.0.0 < item.0.0) self.old.items }
         ensures ok { OnOk result (self.new.items ≡ self.old.items ++ item ∷ []) }
-        ensures err { OnErr result (self.new.items ≡ self.old.items) }
+        ensures err { OnErr result (self.new ≡ self.old) }
     {
-        self.items.push(item)?;
+        self.reserve(1)?;
+        self.items.push_reserved(item);
         Ok(())
     }
 

@@ -44,12 +44,13 @@ impl Journal {
         self.items.get(at)
     }
 
-    /// Puts the event at the end. After an error the events are as before.
+    /// Puts the event at the end. After an error nothing has changed.
     pub fn push(&mut self, event: Event) -> Result<(), Memory>
         ensures ok { OnOk result (self.new.items ≡ self.old.items ++ event ∷ []) }
-        ensures err { OnErr result (self.new.items ≡ self.old.items) }
+        ensures err { OnErr result (self.new ≡ self.old) }
     {
-        self.items.push(event)?;
+        self.reserve(1)?;
+        self.items.push_reserved(event);
         Ok(())
     }
 
@@ -69,9 +70,6 @@ impl Journal {
         ensures items { self.new.items ≡ self.old.items ++ event ∷ [] }
         ensures spare { self.old.spare ≤ self.new.spare + 1 }
     {
-        match self.items.push(event) {
-            Ok(()) => {}
-            Err(_) => unreachable!(),
-        }
+        self.items.push_reserved(event);
     }
 }

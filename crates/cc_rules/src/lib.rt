@@ -1,7 +1,7 @@
 //! The rendezvous machine: its events, what its processes and calls are, and the journal of a run.
 //!
 //! Processes ask, and the machine decides when calls and processes meet. What a state is, when an event is legal and
-//! what it does stand in `specs/`: `State`, `Choice`, `Effects`, `Ends`, `Events`, `Runs`.
+//! what it does stand in `specs/`: `State`, `Effects`, `Choice`, `Ends`, `Events`, `Runs`, `Stops`.
 #![tactic(auto)]
 
 mod event;
@@ -14,7 +14,7 @@ pub use event::{Event, Standing, Word};
 pub use faults::Faults;
 pub use journal::Journal;
 pub use laws::runs_go_on;
-pub use process::{PendingCall, ProcessStanding, Waiting};
+pub use process::{ProcessStanding, TransactionCall, Waiting};
 
 #[cfg(test)]
 mod tests;

@@ -24,13 +24,13 @@ pub enum Waiting {
     Nobody,
     /// Its caller.
     Caller { pid: Pid },
-    /// Its caller, which withdraws it where it is still pending at the deadline.
+    /// Its caller. The call is withdrawn where it is still pending at the deadline, in milliseconds, and can't be taken.
     Until { pid: Pid, deadline: u64 },
 }
 
 /// A transaction call that was asked: it is pending at its target, or being served there.
 #[derive(Debug, Drop)]
-pub struct PendingCall {
+pub struct TransactionCall {
     pub number: CallId,
     pub target: Pid,
     pub trans: u32,
