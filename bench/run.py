@@ -1,0 +1,67 @@
+#!/usr/bin/env python3
+"""Times whole commands of the proved program and prints a table.
+
+Each command runs several times, and the table has the median of its seconds, its turns per second and the largest
+peak memory. The program is the one that `rt run` or `rt ci` left, or the one that CCRUN names.
+
+    bench/run.py [RUNS]
+"""
+
+import os
+import pathlib
+import statistics
+import subprocess
+import sys
+import tempfile
+import time
+
+TOP = pathlib.Path(__file__).resolve().parent.parent
+PROGRAM = os.environ.get("CCRUN", str(TOP / "crates" / "ccrun" / "out" / "ccrun"))
+MOST_BYTES = 1_048_576
+
+
+def longest_text(digits):
+    """The longest text of `putchar` statements whose numbers have this many digits, and how many they are."""
+    head, tail = "main(){", "}"
+    statement = "putchar(" + "255"[:digits] + ");"
+    count = (MOST_BYTES - len(head) - len(tail)) // len(statement)
+    return head + statement * count + tail, count
+
+
+def run_once(words):
+    """Seconds, peak memory in MiB and exit status of one run."""
+    with tempfile.TemporaryFile() as out:
+        start = time.perf_counter()
+        process = subprocess.Popen([PROGRAM, *words], stdin=subprocess.DEVNULL, stdout=out, stderr=subprocess.DEVNULL)
+        _, status, usage = os.wait4(process.pid, 0)
+        seconds = time.perf_counter() - start
+        process.returncode = os.waitstatus_to_exitcode(status)
+        return seconds, usage.ru_maxrss / 1024, process.returncode, out.tell()
+
+
+def measure(name, words, turns, printed, runs):
+    results = [run_once(words) for _ in range(runs)]
+    for seconds, memory, status, size in results:
+        if status != 0:
+            sys.exit(f"{name}: ended with status {status}")
+    seconds = statistics.median(result[0] for result in results)
+    memory = max(result[1] for result in results)
+    rate = f"{turns / seconds:14,.0f}" if turns > 100 else " " * 14
+    print(f"{name:<34}{turns:>10,}{seconds:>10.4f}{rate}{memory:>10.1f}")
+
+
+def main():
+    runs = int(sys.argv[1]) if len(sys.argv) > 1 else 9
+    if not os.access(PROGRAM, os.X_OK):
+        sys.exit(f"{PROGRAM} is not built: run `./ccrun` or `rt ci` first")
+    print(f"{'command':<34}{'turns':>10}{'seconds':>10}{'turns/second':>14}{'MiB':>10}")
+    with tempfile.TemporaryDirectory() as folder:
+        measure("start-up: run examples/hi.cc", ["run", str(TOP / "examples" / "hi.cc")], 3, 2, runs)
+        for digits in (3, 1):
+            text, count = longest_text(digits)
+            path = pathlib.Path(folder) / f"prints{digits}.cc"
+            path.write_text(text)
+            measure(f"run {count:,} statements", ["run", str(path)], count + 1, count, runs)
+
+
+main()

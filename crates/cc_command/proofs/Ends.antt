@@ -1,0 +1,40 @@
+-- A status tells how the command ended.
+use Rattle.std.proofs.Common.{◌≡◌, ℕ, Option, Some, None, refl, sym, ◌∙◌, ap, Result}
+use Rattle.std.specs.Prelude.{IsErrOf, OnOk, OnErr, unwrap_or}
+use Rattle.cc_command.specs.declared.cause.Cause.{Cause}
+use Rattle.cc_command.specs.declared.cause.Cause.TheVariants.{Usage, Text, Shelf, Write, Memory}
+use Rattle.cc_command.specs.Statuses.{status_at, status_of, cause_of, line_of, report_of}
+
+told : (cause : Cause) → cause_of (status_at cause) ≡ Some cause
+told Usage = refl
+told Text = refl
+told Shelf = refl
+told Write = refl
+told Memory = refl
+
+pub is_cause : {T : Type 0} (answer : Result T Cause) (cause : Cause) → status_of answer ≡ status_at cause → IsErrOf answer cause
+is_cause (Result.Ok x) cause e =
+    let bad : None ≡ Some cause = ap cause_of e ∙ told cause in
+    cc
+is_cause (Result.Err found) cause e =
+    let same : Some found ≡ Some cause = sym (told found) ∙ ap cause_of e ∙ told cause in
+    ap (λ o. Result.Err (unwrap_or o cause)) same
+
+pub done_at : {T : Type 0} (answer : Result T Cause) (P : Type 0) → status_of answer ≡ 0 → OnOk answer P → P
+done_at (Result.Ok x) P e p = p
+done_at (Result.Err cause) P e p =
+    let bad : None ≡ Some cause = ap cause_of (sym e) ∙ told cause in
+    cc
+
+pub line-report : {T : Type 0} (answer : Result T Cause) → line_of answer ≡ report_of (status_of answer)
+line-report (Result.Ok x) = refl
+line-report (Result.Err Usage) = refl
+line-report (Result.Err Text) = refl
+line-report (Result.Err Shelf) = refl
+line-report (Result.Err Write) = refl
+line-report (Result.Err Memory) = refl
+
+-- what follows from a fact of an answer follows where that answer is Ok
+pub on_ok : {T E P Q : Type 0} (answer : Result T E) → (P → Q) → OnOk answer P → OnOk answer Q
+on_ok (Result.Ok x) follows p = follows p
+on_ok (Result.Err e) follows p = tt

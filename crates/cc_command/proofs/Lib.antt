@@ -1,0 +1,9 @@
+mod Pieces
+mod Rows
+mod Numerals
+mod Statements
+mod Programs
+mod Prints
+mod Texts
+mod Ends
+mod Decides

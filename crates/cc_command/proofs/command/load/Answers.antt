@@ -1,0 +1,15 @@
+use Rattle.std.proofs.Common.{rules}
+use Rattle.cc_world.proofs.Counts.{missing_if}
+use Rattle.cc_command.proofs.Texts.{holds_program, holds_no_program}
+use Rattle.cc_command.proofs.command.load.Goals as goal
+
+pub returns-in-Err-Failed-clause-shelf : goal.returns-in-Err-Failed-clause-shelf
+returns-in-Err-Failed-clause-shelf g c = λ _. missing_if _ _ _ _ c.read.result c.read.ensures.cause (search rules)
+
+pub returns-in-Ok-read_program-clause-program : goal.returns-in-Ok-read_program-clause-program
+returns-in-Ok-read_program-clause-program g c =
+    holds_program _ _ _ _ c.in-Ok.ensures.bytes (rw c.as_slice.ensures at c.in-Ok-read_program.ensures.program)
+
+pub returns-in-Err-Unbuilt-clause-text : goal.returns-in-Err-Unbuilt-clause-text
+returns-in-Err-Unbuilt-clause-text g c =
+    λ _. holds_no_program _ _ _ c.in-Ok.ensures.bytes (rw c.as_slice.ensures at (c.in-Err-Unbuilt.ensures.unbuilt (search rules)))

@@ -1,0 +1,4 @@
+pub mod Counts
+pub mod Grown
+mod Names
+mod Pieces

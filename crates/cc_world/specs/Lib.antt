@@ -1,0 +1,10 @@
+pub mod Calls
+pub mod Causes
+pub mod MemShelf
+pub mod MemSink
+pub mod MemSource
+pub mod Misses
+pub mod Shelf
+pub mod StepClock
+pub mod System
+pub mod Told
