@@ -36,14 +36,14 @@ def run_once(words):
         _, status, usage = os.wait4(process.pid, 0)
         seconds = time.perf_counter() - start
         process.returncode = os.waitstatus_to_exitcode(status)
-        return seconds, usage.ru_maxrss / 1024, process.returncode, out.tell()
+        return seconds, usage.ru_maxrss / 1024, process.returncode, os.fstat(out.fileno()).st_size
 
 
 def measure(name, words, turns, printed, runs):
     results = [run_once(words) for _ in range(runs)]
-    for seconds, memory, status, size in results:
-        if status != 0:
-            sys.exit(f"{name}: ended with status {status}")
+    for _, _, status, size in results:
+        if status != 0 or size != printed:
+            sys.exit(f"{name}: ended with status {status} after {size} bytes")
     seconds = statistics.median(result[0] for result in results)
     memory = max(result[1] for result in results)
     rate = f"{turns / seconds:14,.0f}" if turns > 100 else " " * 14

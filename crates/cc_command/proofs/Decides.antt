@@ -1,7 +1,6 @@
 -- Which answers are left where the shelf tells the text.
 use Rattle.std.proofs.Common.{◌≡◌, ◌⊎◌, inl, inr, ℕ, List, Option, Some, None, refl, sym, ◌∙◌, ap, subst, Result}
-use Rattle.std.specs.Prelude.{IfSome, IsErrOf, OnOk, option_map, unwrap_or}
-use Rattle.std.specs.FinMap as map
+use Rattle.std.specs.Prelude.{IfSome, IsErrOf, OnOk}
 use Rattle.cc_command.specs.Form.{IsProgram}
 use Rattle.cc_command.specs.Outcomes.{HoldsNoProgram, HoldsProgram, HoldsText, TellsNone, TellsText}
 use Rattle.cc_command.specs.Statuses.{status_of}

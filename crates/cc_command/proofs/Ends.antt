@@ -1,6 +1,6 @@
 -- A status tells how the command ended.
-use Rattle.std.proofs.Common.{◌≡◌, ℕ, Option, Some, None, refl, sym, ◌∙◌, ap, Result}
-use Rattle.std.specs.Prelude.{IsErrOf, OnOk, OnErr, unwrap_or}
+use Rattle.std.proofs.Common.{◌≡◌, Some, None, refl, sym, ◌∙◌, ap, Result}
+use Rattle.std.specs.Prelude.{IsErrOf, OnOk, unwrap_or}
 use Rattle.cc_command.specs.declared.cause.Cause.{Cause}
 use Rattle.cc_command.specs.declared.cause.Cause.TheVariants.{Usage, Text, Shelf, Write, Memory}
 use Rattle.cc_command.specs.Statuses.{status_at, status_of, cause_of, line_of, report_of}

@@ -1,5 +1,5 @@
 -- A program that prints bytes, as it runs.
-use Rattle.std.proofs.Common.{◌≡◌, ℕ, zero, suc, ◌+◌, ◌-◌, ◌<◌, ◌≤◌, Bool, true, false, cond, ◌&&◌, not, List, [], ◌∷◌, ◌++◌, length, take, get_or, Option, Some, None, refl, sym, ap, ◌∙◌, subst, arith, rules, length-append, append-nil, take_all, take-take, ap₂, add-one}
+use Rattle.std.proofs.Common.{◌≡◌, ℕ, zero, suc, ◌+◌, ◌-◌, ◌<◌, ◌≤◌, true, false, ◌&&◌, not, List, [], ◌∷◌, ◌++◌, length, take, get_or, Option, None, refl, sym, ap, ◌∙◌, subst, arith, length-append, append-nil, take_all, take-take, ap₂, add-one}
 use Rattle.std.specs.Prelude.{slice_get}
 use Rattle.std.proofs.Math.Seq.{take-suc}
 use Rattle.std.proofs.lemmas.List.{length-take-le}
@@ -11,15 +11,13 @@ use Rattle.cc_rules.proofs.GoOn.{after-append, IsRunFrom-append, IsSettledFrom-a
 use Rattle.cc_rules.specs.Effects.{effect}
 use Rattle.std.specs.Option.{option_map_or}
 use Rattle.cc_base.specs.Meaning.{Meaning}
-use Rattle.cc_base.specs.declared.names.Pid.{Pid}
 use Rattle.cc_base.specs.declared.request.Grant.{Grant}
 use Rattle.cc_base.specs.declared.request.Grant.TheVariants.{Go}
-use Rattle.cc_base.specs.declared.request.Request.{Request}
 use Rattle.cc_base.specs.declared.request.Request.TheVariants.{Print, Done}
 use Rattle.cc_rules.specs.Choice.{numbered, expires_at, has_eligible, is_immediate}
 use Rattle.cc_rules.specs.Ends.{is_complete, has_faulted, is_due}
 use Rattle.cc_rules.specs.Events.{is_legal, next, request_at, same_word, word_of}
-use Rattle.cc_rules.specs.Runs.{IsRunFrom, IsSettled, IsSettledFrom, after, is_turn, printed_from, event_bytes, bytes_of}
+use Rattle.cc_rules.specs.Runs.{IsRunFrom, IsSettled, IsSettledFrom, after, printed_from, event_bytes, bytes_of}
 use Rattle.cc_rules.specs.State.{Process, State, first_state, nobody, open_alternatives, process_at}
 use Rattle.cc_rules.specs.declared.event.Event.{Event}
 use Rattle.cc_rules.specs.declared.event.Event.TheVariants.{Ask, Accept, Instant, Expire, Withdraw, Time, End}
@@ -28,7 +26,6 @@ use Rattle.cc_rules.specs.declared.process.ProcessStanding.{ProcessStanding}
 use Rattle.cc_rules.specs.declared.process.ProcessStanding.TheVariants.{Running, Ended}
 use Rattle.cc_command.specs.Printing.{printing, request_after, main, asked, is_untimed}
 use Rattle.cc_command.specs.Outcomes.{RunsToItsEnd, StopsAtTheSink, StopsForMemory}
-use Rattle.cc_rules.specs.Stops.{StopsInPrint, EndsWell}
 use Rattle.cc_world.specs.Told.{with_bytes, GrewBy, GrewWithin}
 use Rattle.cc_world.proofs.Grown.{grown_twice, not_grown}
 

@@ -1,5 +1,5 @@
 -- What the command leaves, for each way in which it ends.
-use Rattle.std.specs.Prelude.{◌≡◌, ◌⊎◌, ℕ, Bool, false, List, [], Option, Some, None, IfSome, option_map}
+use Rattle.std.specs.Prelude.{◌≡◌, ℕ, false, List, [], Option, Some, None, IfSome, option_map}
 use Rattle.std.specs.FinMap as map
 use Rattle.cc_command.specs.Form.{IsProgram}
 use Rattle.cc_command.specs.Printing.{printing}

@@ -1,5 +1,5 @@
 -- What a program means that prints bytes, one after another.
-use Rattle.std.specs.Prelude.{ℕ, ℤ, ◌-◌, Bool, not, List, [], ◌∷◌, length, slice_get, Option, Some, None}
+use Rattle.std.specs.Prelude.{ℕ, ◌-◌, Bool, not, List, [], ◌∷◌, length, slice_get, None}
 use Rattle.std.specs.Option.{option_map_or}
 use Rattle.cc_base.specs.Meaning.{Meaning}
 use Rattle.cc_base.specs.declared.names.Pid.{Pid}

@@ -1,9 +1,9 @@
 -- When a run is over, when it ends as a whole, and when nothing can go on.
-use Rattle.std.specs.Prelude.{ℕ, Bool, true, false, ◌&&◌, ◌||◌, not, List, [], ◌∷◌, Option, Some, None, is_some}
+use Rattle.std.specs.Prelude.{ℕ, Bool, true, false, ◌&&◌, ◌||◌, not, is_some}
 use Rattle.std.specs.List.{list_all, list_any}
 use Rattle.cc_base.specs.Meaning.{Meaning}
 use Rattle.cc_rules.specs.Choice.{has_eligible, has_immediate, is_acceptable, is_terminate, alternative_deadline, call_deadline, every_process, expires, expiring_numbers, may_withdraw, some_process, takes_at_once}
-use Rattle.cc_rules.specs.State.{Process, State, process_at, is_running, is_over, is_faulted, open_alternatives}
+use Rattle.cc_rules.specs.State.{State, process_at, is_running, is_over, is_faulted, open_alternatives}
 use Rattle.cc_rules.specs.declared.process.ProcessStanding.{ProcessStanding}
 use Rattle.cc_rules.specs.declared.process.ProcessStanding.TheVariants.{Running, AtSelect, AtDelay, AtCall, Ended, Faulted}
 

@@ -1,9 +1,8 @@
 -- When an event is legal, and what it does.
-use Rattle.std.specs.Prelude.{ℕ, Bool, true, false, ◌&&◌, not, if◌then◌else◌, List, [], ◌∷◌, ◌++◌, map, set, filter, Option, Some, None, nat_eq, nat_lt, nat_le}
+use Rattle.std.specs.Prelude.{ℕ, Bool, true, false, ◌&&◌, not, if◌then◌else◌, List, [], ◌∷◌, ◌++◌, map, set, filter, nat_eq, nat_lt, nat_le}
 use Rattle.std.specs.List.{enumerate_from}
 use Rattle.std.specs.Option.{option_map_or}
 use Rattle.cc_base.specs.Meaning.{Meaning}
-use Rattle.cc_base.specs.declared.names.CallId.{CallId}
 use Rattle.cc_base.specs.declared.names.Pid.{Pid}
 use Rattle.cc_base.specs.declared.request.Grant.{Grant}
 use Rattle.cc_base.specs.declared.request.Grant.TheVariants.{Go, Late, Took, Chose}
@@ -12,7 +11,7 @@ use Rattle.cc_base.specs.declared.request.Request.TheVariants as request
 use Rattle.cc_rules.specs.Choice.{accepts, call_numbered, expires, may_withdraw, takes_at_once}
 use Rattle.cc_rules.specs.Effects.{answered, effect, grant_to, granted}
 use Rattle.cc_rules.specs.Ends.{has_deadline, has_running, is_complete, is_due, is_stuck, is_unsettled, waits_at_terminate}
-use Rattle.cc_rules.specs.State.{Process, State, process_at, is_running}
+use Rattle.cc_rules.specs.State.{State, process_at, is_running}
 use Rattle.cc_rules.specs.declared.event.Event.{Event}
 use Rattle.cc_rules.specs.declared.event.Event.TheVariants.{Ask, Accept, Instant, Expire, Withdraw, Time, End}
 use Rattle.cc_rules.specs.declared.event.Word.{Word}

@@ -1,5 +1,5 @@
 -- What contracts see of the lists of this crate.
-use Rattle.std.specs.Prelude.{◌≡◌, ◌<◌, ℕ, List, [], ◌∷◌, AllPairs, nat_lt, if◌then◌else◌}
+use Rattle.std.specs.Prelude.{◌<◌, ℕ, List, [], ◌∷◌, AllPairs, nat_lt, if◌then◌else◌}
 use Rattle.cc_base.specs.declared.names.FaultKind.{FaultKind}
 use Rattle.cc_base.specs.declared.names.Pid.{Pid}
 use Rattle.cc_rules.specs.declared.event.Event.{Event}

@@ -1,7 +1,6 @@
 -- What a state of the machine is.
 use Rattle.std.specs.Prelude.{ℕ, ℤ, Bool, true, false, List, [], ◌∷◌, get_or}
 use Rattle.cc_base.specs.declared.alternatives.Alt.{Alt}
-use Rattle.cc_base.specs.declared.names.Pid.{Pid}
 use Rattle.cc_base.specs.declared.request.Grant.{Grant}
 use Rattle.cc_base.specs.declared.request.Grant.TheVariants.{Go}
 use Rattle.cc_rules.specs.declared.process.TransactionCall.{TransactionCall}

@@ -25,8 +25,9 @@ pub trait Sink {
         ensures want { HasWant (wants self.old) (wants self.new) result };
 }
 
-/// Appends all the bytes, piece by piece. After a fault the sink has grown by a first part of them, and not by all.
-/// No bytes are no put: the sink is then as before.
+/// Appends all the bytes, piece by piece. After a fault the sink has grown by the first ones of them, and not by all;
+/// it is `Failed` only where `faults` rose, and `Memory` only where `wants` rose. No bytes are no put, and change
+/// nothing.
 #[tactic(auto, using(crate::proofs::Grown::not_grown))]
 pub fn write_all<K: Sink>(out: &mut K, bytes: &[u8]) -> Result<(), IoFault>
     ensures done { OnOk result (GrewBy (K.held out.old) (K.held out.new) bytes.now) }

@@ -10,7 +10,7 @@ use crate::sink::Sink;
 use crate::source::Source;
 use cc_base::Bytes;
 use std::alloc::Global;
-use std::io::{Read, Write};
+use std::io::{self, ErrorKind, Read, Write};
 use std::rt::Files;
 use std::time::{Duration, Instant};
 use std::{fs, thread};
@@ -124,18 +124,16 @@ impl<R: Files + Drop> DirShelf<R> {
     fn first_bytes(&self, name: &str, most: usize) -> Result<Bytes, IoFault>
         ensures { IfOk result (λ bytes. length bytes ≤ most) }
     {
-        let Ok(mut file) = fs::open(&self.rt, name) else {
-            return Err(IoFault::Failed);
-        };
+        let mut file = fs::open(&self.rt, name).map_err(fault_of)?;
         let mut bytes = Bytes::new(self.alloc);
         let mut piece = [0u8; 4096];
         while bytes.len() < most {
             let room = (most - bytes.len()).min(4096);
-            match file.read(&mut piece[..room]) {
-                Ok(0) => break,
-                Ok(count) => bytes.append(&piece[..count])?,
-                Err(_) => return Err(IoFault::Failed),
+            let count = file.read(&mut piece[..room]).map_err(fault_of)?;
+            if count == 0 {
+                break;
             }
+            bytes.append(&piece[..count])?;
         }
         Ok(bytes)
     }
@@ -152,25 +150,30 @@ impl<R: Files + Drop> Shelf for DirShelf<R> {
     fn read(&mut self, name: &str, most: usize) -> Result<Bytes, IoFault> {
         let noted = Bytes::from_slice(self.alloc, name.as_bytes())?;
         self.failed.reserve()?;
-        match self.first_bytes(name, most) {
-            Err(IoFault::Failed) => {
-                self.failed.add(noted, ShelfCall::Read);
-                Err(IoFault::Failed)
-            }
-            answer => answer,
+        let answer = self.first_bytes(name, most);
+        if let Err(IoFault::Failed) = &answer {
+            self.failed.add(noted, ShelfCall::Read);
         }
+        answer
     }
 
     fn write(&mut self, name: &str, bytes: &[u8]) -> Result<(), IoFault> {
         let noted = Bytes::from_slice(self.alloc, name.as_bytes())?;
         self.failed.reserve()?;
-        match fs::write(&self.rt, name, bytes) {
-            Ok(()) => Ok(()),
-            Err(_) => {
-                self.failed.add(noted, ShelfCall::Write);
-                Err(IoFault::Failed)
-            }
+        let answer = fs::write(&self.rt, name, bytes).map_err(fault_of);
+        if let Err(IoFault::Failed) = &answer {
+            self.failed.add(noted, ShelfCall::Write);
         }
+        answer
+    }
+}
+
+/// Want of memory where the system says so, and a fault otherwise.
+fn fault_of(error: io::Error) -> IoFault {
+    if error.kind() == ErrorKind::OutOfMemory {
+        IoFault::Memory
+    } else {
+        IoFault::Failed
     }
 }
 

@@ -1,4 +1,3 @@
-use Rattle.std.proofs.Common.{rules}
 use Rattle.cc_command.proofs.Decides.{absent, refuses, runs}
 use Rattle.cc_command.proofs.Ends.{line-report}
 use Rattle.cc_command.proofs.command.command_one.Goals as goal

@@ -1,5 +1,4 @@
-use Rattle.std.proofs.Common.{rules, arith, ◌≡◌, ◌++◌, ◌∷◌, [], refl, inl, inr}
-use Rattle.std.proofs.lemmas.Grind.{common_steps}
+use Rattle.std.proofs.Common.{rules, refl, inl, inr}
 use Rattle.cc_command.proofs.Ends.{on_ok}
 use Rattle.cc_command.proofs.Prints.{all_put, cut_after, cut_before, none_put, one_put, stopped_at}
 use Rattle.cc_command.proofs.running.run_program.Goals as goal
