@@ -24,7 +24,7 @@ pub enum FaultKind {
     Index,
     /// A call through a process variable that names no process.
     NullProcess,
-    /// The called process has ended, or ended before it answered.
+    /// The called process has ended, was stopped by a fault or was never made, or it was over before it answered.
     CalleeGone,
     /// A `select` with no open alternative.
     NoAlternative,

@@ -22,13 +22,14 @@ TellsText files file text = option_map (λ contents. map.get contents file) file
 abbrev pub TellsNone : Option Files → List ℕ → Type 0
 TellsNone files file = option_map (λ contents. map.get contents file) files ≡ Some None
 
--- the file holds a text that is no program
+-- the file holds a text that is no program: the file's own text, where the shelf tells it
 pub record HoldsNoProgram (files : Option Files) (file : List ℕ) : Type 0 where
   pub text : List ℕ
   pub held : HoldsText files file text
   pub no_program : (bytes : List ℕ) → ¬ IsProgram text bytes
 
--- the file holds the text of a program, and of the bytes that the program prints this is true
+-- the file holds the text of a program, its own where the shelf tells it, and of the bytes that the program prints this
+-- is true
 pub record HoldsProgram (files : Option Files) (file : List ℕ) (Then : List ℕ → Type 0) : Type 0 where
   pub text : List ℕ
   pub held : HoldsText files file text
@@ -37,7 +38,7 @@ pub record HoldsProgram (files : Option Files) (file : List ℕ) (Then : List �
   pub follows : Then bytes
 
 -- the journal is a settled run of the program, the sink grew by exactly what the run prints, and at its end every
--- process has ended by itself
+-- process has ended, none by a fault
 pub record RunsToItsEnd (bytes : List ℕ) (journal : List Event) (held held_after : Option (List ℕ)) : Type 0 where
   pub legal : IsRun (printing bytes) [] journal
   pub settled : IsSettledRun (printing bytes) [] journal

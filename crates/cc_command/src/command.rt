@@ -7,7 +7,7 @@ ghost use Rattle.cc_command.specs.Outcomes.{HoldsNoProgram, HoldsProgram, RunsTo
 ghost use Rattle.cc_command.specs.Printing.{is_untimed};
 ghost use Rattle.cc_command.specs.Statuses.{line_of, report_of, status_of};
 ghost use Rattle.cc_world.specs.Causes.{Rose};
-ghost use Rattle.cc_world.specs.Shelf.{Missing};
+ghost use Rattle.cc_world.specs.Shelf.{FailedMore};
 ghost use Rattle.cc_world.specs.Told.{Reported};
 ghost use Rattle.cc_world.specs.declared.fault.ShelfCall.{ShelfCall};
 
@@ -24,7 +24,7 @@ use std::alloc::Global;
 fn load<H: Shelf>(alloc: Global, shelf: &mut H, file: &str) -> Result<Bytes, Cause>
     ensures program { IfOk result (λ bytes. HoldsProgram (H.files shelf.old) file.now (λ printed. printed ≡ bytes)) }
     ensures text { IsErrOf result Cause.Text → HoldsNoProgram (H.files shelf.old) file.now }
-    ensures shelf { IsErrOf result Cause.Shelf → Missing ShelfCall.Read file.now (H.failed shelf.old) (H.failed shelf.new) }
+    ensures shelf { IsErrOf result Cause.Shelf → FailedMore ShelfCall.Read file.now (H.failed shelf.old) (H.failed shelf.new) }
     ensures noted { IsErrOf result Cause.Shelf ⊎ (H.failed shelf.new ≡ H.failed shelf.old) }
     ensures same { H.files shelf.new ≡ H.files shelf.old }
     ensures only { IfErr result (λ cause. (cause ≡ Cause.Text) ⊎ (cause ≡ Cause.Shelf) ⊎ (cause ≡ Cause.Memory)) }
@@ -55,7 +55,7 @@ fn run_file<H: Shelf, K: Sink>(
     ensures done { OnOk result (IfSome (file_asked words.now) (λ file.
         HoldsProgram (H.files shelf.old) file (λ bytes. RunsToItsEnd bytes journal.new.items (K.held out.old) (K.held out.new)))) }
     ensures text { IsErrOf result Cause.Text → IfSome (file_asked words.now) (HoldsNoProgram (H.files shelf.old)) }
-    ensures shelf { IsErrOf result Cause.Shelf → IfSome (file_asked words.now) (λ file. Missing ShelfCall.Read file (H.failed shelf.old) (H.failed shelf.new)) }
+    ensures shelf { IsErrOf result Cause.Shelf → IfSome (file_asked words.now) (λ file. FailedMore ShelfCall.Read file (H.failed shelf.old) (H.failed shelf.new)) }
     ensures write { IsErrOf result Cause.Write → IfSome (file_asked words.now) (λ file.
         HoldsProgram (H.files shelf.old) file (λ bytes. StopsAtTheSink bytes journal.new.items (K.held out.old) (K.held out.new))) }
     ensures sink { IsErrOf result Cause.Write → Rose (K.faults out.old) (K.faults out.new) }
@@ -156,7 +156,7 @@ pub fn command_one<H: Shelf, S: Source, K: Sink, E: Sink, C: Clock>(
         HoldsProgram (H.files shelf.old) file (λ bytes. RunsToItsEnd bytes result.journal.items (K.held out) (K.held result.out))) }
 
     // 6: only where the shelf's count of reads of the file rose; and no failed read is passed over.
-    ensures shelf { result.status ≡ 6 → IfSome (file_asked words.now) (λ file. Missing ShelfCall.Read file (H.failed shelf.old) (H.failed shelf.new)) }
+    ensures shelf { result.status ≡ 6 → IfSome (file_asked words.now) (λ file. FailedMore ShelfCall.Read file (H.failed shelf.old) (H.failed shelf.new)) }
     ensures noted { (result.status ≡ 6) ⊎ (H.failed shelf.new ≡ H.failed shelf.old) }
 
     // 8: only where the output's count rose. The run was cut short in a Print.
@@ -177,10 +177,10 @@ pub fn command_one<H: Shelf, S: Source, K: Sink, E: Sink, C: Clock>(
     // The converse, memory apart: where the shelf tells the text of the file, the text decides, unless the shelf or the
     // output failed.
     ensures runs { (file text bytes : List ℕ) → file_asked words.now ≡ Some file → TellsText (H.files shelf.old) file text → IsProgram text bytes
-        → ¬ Missing ShelfCall.Read file (H.failed shelf.old) (H.failed shelf.new) → ¬ Rose (K.faults out) (K.faults result.out)
+        → ¬ FailedMore ShelfCall.Read file (H.failed shelf.old) (H.failed shelf.new) → ¬ Rose (K.faults out) (K.faults result.out)
         → (result.status ≡ 0) ⊎ (result.status ≡ 9) }
     ensures refuses { (file text : List ℕ) → file_asked words.now ≡ Some file → TellsText (H.files shelf.old) file text → ((bytes : List ℕ) → ¬ IsProgram text bytes)
-        → ¬ Missing ShelfCall.Read file (H.failed shelf.old) (H.failed shelf.new)
+        → ¬ FailedMore ShelfCall.Read file (H.failed shelf.old) (H.failed shelf.new)
         → (result.status ≡ 2) ⊎ (result.status ≡ 9) }
     ensures absent { (file : List ℕ) → file_asked words.now ≡ Some file → TellsNone (H.files shelf.old) file → (result.status ≡ 6) ⊎ (result.status ≡ 9) }
 

@@ -46,5 +46,5 @@ abbrev pub count_of : ShelfCall → List ℕ → List Missed → ℕ
 count_of call name missed = count_by (is_of call name) missed
 
 -- this call of this name failed more often
-abbrev pub Missing : ShelfCall → List ℕ → List Missed → List Missed → Type 0
-Missing call name before now = count_of call name before < count_of call name now
+abbrev pub FailedMore : ShelfCall → List ℕ → List Missed → List Missed → Type 0
+FailedMore call name before now = count_of call name before < count_of call name now

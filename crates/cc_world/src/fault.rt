@@ -3,10 +3,11 @@ ghost use Rattle.cc_world.specs.declared.fault.IoFault.TheVariants.{Memory as Ou
 
 use cc_base::Memory;
 
-/// Why a call of an outside object failed. The object's content is then as before.
+/// Why a call of an outside object failed. What the object tells of its content is then as before.
 #[derive(Clone, Copy, Debug, Drop, PartialEq, Eq)]
 pub enum IoFault {
-    /// The object could not do it, and has noted that: a count or a list of failed calls has grown.
+    /// The object could not do it, and has noted that: a count has risen, or stands at the end of its type, or a list of
+    /// failed calls has grown.
     Failed,
     /// Memory was wanting. Nothing is noted among the failed calls.
     Memory,

@@ -12,8 +12,8 @@ pub trait Shelf {
     /// The calls that failed, the first one first: the name, and which call.
     ghost failed: { Self → List Missed };
 
-    /// The first `most` bytes of a file, or all where it is shorter. It is `Failed` where there is no such file, and
-    /// only where this call was put last in `failed`; no other answer changes `failed`.
+    /// The first `most` bytes of a file, or all where it is shorter. It is a fault where there is no such file. It is
+    /// `Failed` only where this call was put last in `failed`; no other answer changes `failed`.
     fn read(&mut self, name: &str, most: usize) -> Result<Bytes, IoFault>
         ensures bytes { IfOk result (IsStartOf (files self.old) name.now most) }
         ensures bound { IfOk result (λ bytes. length bytes ≤ most) }
@@ -21,7 +21,7 @@ pub trait Shelf {
         ensures cause { failed self.new ≡ missed_after result (failed self.old) name.now ShelfCall.Read };
 
     /// Sets a whole file, and leaves every other. It is `Failed` only where this call was put last in `failed`; no
-    /// other answer changes `failed`. After either fault the files are as before.
+    /// other answer changes `failed`. After either fault the files that are told are as before.
     fn write(&mut self, name: &str, bytes: &[u8]) -> Result<(), IoFault>
         ensures done { OnOk result (files self.new ≡ Written (files self.old) name.now bytes.now) }
         ensures same { OnErr result (files self.new ≡ files self.old) }

@@ -9,14 +9,14 @@ pub trait Sink {
     /// The bytes that it holds. A sink that does not tell them says None, and then always does.
     ghost held: { Self → Option (List ℕ) };
 
-    /// How often it has failed.
+    /// A count that never falls, and rises where a call fails.
     ghost faults: { Self → ℕ };
 
-    /// How often memory was wanting.
+    /// A count that never falls, and rises where memory was wanting.
     ghost wants: { Self → ℕ };
 
     /// Appends the first bytes of `bytes`, at least one, and answers how many. It is `Failed` only where `faults`
-    /// rose, and `Memory` only where `wants` rose; after either it holds what it held.
+    /// rose, and `Memory` only where `wants` rose; after either it tells that it holds what it held.
     fn put(&mut self, bytes: &[u8]) -> Result<usize, IoFault>
         requires { 0 < length bytes.now }
         ensures bytes { Puts (held self.old) (held self.new) result bytes.now }

@@ -9,11 +9,11 @@ pub trait Source {
     /// The bytes that are left. A source that does not tell them says None, and then always does.
     ghost left: { Self → Option (List ℕ) };
 
-    /// How often it has failed.
+    /// A count that never falls, and rises where a call fails.
     ghost faults: { Self → ℕ };
 
     /// Takes the next bytes into the front of `buf`, and answers how many: at least one, or 0 exactly at the end. It
-    /// is `Failed` only where `faults` rose, and after either fault all bytes are still left.
+    /// is `Failed` only where `faults` rose, and after either fault all bytes that it tells are still left.
     fn take(&mut self, buf: &mut [u8]) -> Result<usize, IoFault>
         requires { 0 < length buf.old }
         ensures bytes { Takes (left self.old) (left self.new) result buf.new }

@@ -2,7 +2,7 @@ ghost use Rattle.std.specs.Prelude.{◌≡◌};
 
 use crate::clock::Clock;
 
-/// A clock that stands until it is told to rest, and then shows the moment until which it rested.
+/// A clock that stands until it is told to rest, and then shows that moment, or its own where that is later.
 #[derive(Debug, Drop)]
 pub struct StepClock {
     at: u64,

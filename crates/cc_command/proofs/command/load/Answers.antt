@@ -1,10 +1,10 @@
 use Rattle.std.proofs.Common.{rules}
-use Rattle.cc_world.proofs.Counts.{missing_if}
+use Rattle.cc_world.proofs.Counts.{failed_if}
 use Rattle.cc_command.proofs.Texts.{holds_program, holds_no_program}
 use Rattle.cc_command.proofs.command.load.Goals as goal
 
 pub returns-in-Err-Failed-clause-shelf : goal.returns-in-Err-Failed-clause-shelf
-returns-in-Err-Failed-clause-shelf g c = λ _. missing_if _ _ _ _ c.read.result c.read.ensures.cause (search rules)
+returns-in-Err-Failed-clause-shelf g c = λ _. failed_if _ _ _ _ c.read.result c.read.ensures.cause (search rules)
 
 pub returns-in-Ok-read_program-clause-program : goal.returns-in-Ok-read_program-clause-program
 returns-in-Ok-read_program-clause-program g c =
