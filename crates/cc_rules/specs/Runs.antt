@@ -1,5 +1,5 @@
 -- Runs of the machine, from its first state.
-use Rattle.std.specs.Prelude.{◌≡◌, ℕ, Bool, true, false, List, [], ◌∷◌, ◌++◌, count_by}
+use Rattle.std.specs.Prelude.{◌≡◌, ℕ, Bool, true, false, List, [], ◌∷◌, ◌++◌, count_by, nat_eq}
 use Rattle.cc_base.specs.Meaning.{Meaning}
 use Rattle.cc_base.specs.declared.request.Request.{Request}
 use Rattle.cc_base.specs.declared.request.Request.TheVariants as request
@@ -61,6 +61,16 @@ IsSettledFrom m s (event ∷ events) = (is_turn event ≡ true → IsSettled m s
 -- the run is settled
 abbrev pub IsSettledRun : Meaning → List ℕ → List Event → Type 0
 IsSettledRun m input events = IsSettledFrom m (first_state input) events
+
+-- the event takes the call of this number out of the pending calls: a process accepts it, or it is withdrawn
+abbrev pub takes_call : ℕ → Event → Bool
+takes_call n (Ask p w) = false
+takes_call n (Accept p i c) = nat_eq c.0 n
+takes_call n (Instant p i) = false
+takes_call n (Expire p i) = false
+takes_call n (Withdraw c) = nat_eq c.0 n
+takes_call n (Time t) = false
+takes_call n End = false
 
 -- the bytes that a request prints
 abbrev pub bytes_of : Request → List ℕ

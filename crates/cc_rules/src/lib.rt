@@ -1,7 +1,8 @@
 //! The rendezvous machine: its events, what its processes and calls are, and the journal of a run.
 //!
 //! Processes ask, and the machine decides when calls and processes meet. What a state is, when an event is legal and
-//! what it does stand in `specs/`: `State`, `Effects`, `Choice`, `Ends`, `Events`, `Runs`, `Stops`.
+//! what it does stand in `specs/`: `State`, `Effects`, `Choice`, `Ends`, `Events`, `Runs`, `Stops`. What holds of every run
+//! is said by the functions without a body that this crate makes public, over `Proper`, `Sound`, `Accepted` and `Alike`.
 #![tactic(auto)]
 
 mod event;
@@ -13,8 +14,14 @@ mod process;
 pub use event::{Event, Standing, Word};
 pub use faults::Faults;
 pub use journal::Journal;
-pub use laws::runs_go_on;
+pub use laws::{
+    accepts_are_chosen, alike_programs_run_alike, calls_are_taken_once,
+    complete_and_stuck_are_final, running_stays, runs_go_on, settles_by_test, sound_runs,
+    the_end_is_last,
+};
 pub use process::{ProcessStanding, TransactionCall, Waiting};
 
 #[cfg(test)]
 mod tests;
+#[cfg(test)]
+mod worked;

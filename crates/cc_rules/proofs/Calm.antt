@@ -1,0 +1,45 @@
+-- A run that a test passes is legal and settled.
+use Rattle.std.proofs.Common.{◌≡◌, ℕ, Bool, true, ◌&&◌, ◌||◌, not, List, [], ◌∷◌}
+use Rattle.std.proofs.lemmas.Bool.{and_parts}
+use Rattle.cc_base.specs.Meaning.{Meaning}
+use Rattle.cc_rules.proofs.Bools.{implies, is-not}
+use Rattle.cc_rules.proofs.Settled.{IsSettled-by_test}
+use Rattle.cc_rules.specs.Ends.{is_unsettled}
+use Rattle.cc_rules.specs.Events.{is_legal, next}
+use Rattle.cc_rules.specs.Proper.{WellFormed}
+use Rattle.cc_rules.specs.Runs.{IsRunFrom, IsSettledFrom, is_turn, printed}
+use Rattle.cc_rules.specs.State.{State, first_state}
+use Rattle.cc_rules.specs.Worked.Script.{IsWorked}
+use Rattle.cc_rules.specs.declared.event.Event.{Event}
+
+-- each event is legal, and the state is settled before each turn and at the end
+abbrev pub is_calm : Meaning → State → List Event → Bool
+is_calm m s [] = not (is_unsettled m s)
+is_calm m s (e ∷ events) = (is_legal m s e && (not (is_turn e) || not (is_unsettled m s))) && is_calm m (next m s e) events
+
+run-calm : (m : Meaning) (s : State) (events : List Event) → is_calm m s events ≡ true → IsRunFrom m s events
+run-calm m s [] h = tt
+run-calm m s (e ∷ events) h =
+    let parts = and_parts (is_legal m s e && (not (is_turn e) || not (is_unsettled m s))) (is_calm m (next m s e) events) h in
+    ((and_parts (is_legal m s e) (not (is_turn e) || not (is_unsettled m s)) parts.0).0, run-calm m (next m s e) events parts.1)
+
+settled-calm : (m : Meaning) (s : State) (events : List Event) → is_calm m s events ≡ true → IsSettledFrom m s events
+settled-calm m s [] h = IsSettled-by_test m s (is-not (is_unsettled m s) h)
+settled-calm m s (e ∷ events) h =
+    let parts = and_parts (is_legal m s e && (not (is_turn e) || not (is_unsettled m s))) (is_calm m (next m s e) events) h in
+    let turn = (and_parts (is_legal m s e) (not (is_turn e) || not (is_unsettled m s)) parts.0).1 in
+    ((λ k. IsSettled-by_test m s (is-not (is_unsettled m s) (implies (is_turn e) (not (is_unsettled m s)) turn k))), settled-calm m (next m s e) events parts.1)
+
+pub worked :
+    (m : Meaning) (events : List Event) (bytes : List ℕ)
+    → WellFormed m
+    → is_calm m (first_state []) events ≡ true
+    → printed m [] events ≡ bytes
+    → IsWorked m events bytes
+worked m events bytes well calm prints =
+    record {
+      well_formed = well;
+      run = run-calm m (first_state []) events calm;
+      settled = settled-calm m (first_state []) events calm;
+      prints = prints;
+    }

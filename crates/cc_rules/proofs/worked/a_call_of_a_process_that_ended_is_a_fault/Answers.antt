@@ -1,0 +1,12 @@
+use Rattle.std.proofs.Common.{refl, []}
+use Rattle.cc_rules.proofs.Calm.{worked}
+use Rattle.cc_rules.proofs.WorkedWell.{callee_ended-caller_well}
+use Rattle.cc_rules.specs.Worked.CalleeEnded as callee_ended
+use Rattle.cc_rules.proofs.worked.a_call_of_a_process_that_ended_is_a_fault.Goals as goal
+
+pub returns : goal.returns
+returns c =
+    record {
+      run = worked callee_ended.caller callee_ended.call_journal [] callee_ended-caller_well refl refl;
+      ends = record { complete = refl; fault = refl };
+    }

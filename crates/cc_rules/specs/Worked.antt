@@ -1,0 +1,10 @@
+pub mod Script
+pub mod LeastRank
+pub mod NoFit
+pub mod LateCall
+pub mod AcceptedInTime
+pub mod Immediate
+pub mod EndIsDue
+pub mod CallsItself
+pub mod CalleeEnded
+pub mod Nested
