@@ -140,6 +140,8 @@ IsChosenCall-found m s p i c (Some call) h e l =
     record {
       alts = o.alts;
       asked = asked-select x (request_at m s p) o.alts o.asked o.standing (stands-by m s p.0 h w);
+      since = o.asked;
+      waits = o.standing;
       trans = k.trans;
       site = k.site;
       env = k.env;

@@ -1,8 +1,7 @@
 -- A run does not go on from a state that is complete or stuck, and the collective end makes a state complete.
-use Rattle.std.proofs.Common.{◌≡◌, ℕ, ◌+◌, ◌<◌, ◌⊎◌, inl, inr, Bool, true, false, ◌&&◌, not, List, [], ◌∷◌, length, get_or, refl, sym, ap, ◌∙◌, arith}
-use Rattle.std.specs.Prelude.{if◌then◌else◌, All, nat_le, nat_lt}
-use Rattle.std.specs.List.{list_any}
-use Rattle.std.proofs.lemmas.Bool.{and_left, and_parts, cases_lt}
+use Rattle.std.proofs.Common.{◌≡◌, ℕ, inl, inr, Bool, true, false, ◌&&◌, not, List, [], ◌∷◌, length, refl, ap}
+use Rattle.std.specs.Prelude.{if◌then◌else◌, nat_le, nat_lt}
+use Rattle.std.proofs.lemmas.Bool.{and_left, cases_lt}
 use Rattle.std.proofs.lemmas.List.{get_or_past}
 use Rattle.std.proofs.lemmas.List.Elements.{All-head}
 use Rattle.std.proofs.lemmas.List.Folds.{list_any_at}
@@ -14,7 +13,7 @@ use Rattle.cc_rules.proofs.NextStays.{running-within}
 use Rattle.cc_rules.proofs.Own.{TargetsAreThere}
 use Rattle.cc_rules.proofs.Settled.{IsSettled-by_test}
 use Rattle.cc_rules.specs.Ends.{has_deadline, has_running, is_complete, is_due, is_stuck, is_unsettled}
-use Rattle.cc_rules.specs.Events.{is_allowed, is_end, is_legal, next, request_at, same_word, word_of}
+use Rattle.cc_rules.specs.Events.{is_allowed, is_legal, next, request_at, same_word, word_of}
 use Rattle.cc_rules.specs.Sound.{Sound}
 use Rattle.cc_rules.specs.State.{Process, State, is_over, is_running, nobody, process_at}
 use Rattle.cc_rules.specs.declared.event.Event.{Event}

@@ -4,7 +4,7 @@ use Rattle.std.specs.Prelude.{if◌then◌else◌}
 use Rattle.std.specs.List.{enumerate_from, list_any}
 use Rattle.std.specs.Option.{option_map_or}
 use Rattle.std.proofs.lemmas.Bool.{and_parts}
-use Rattle.std.proofs.lemmas.List.{get_or-map}
+use Rattle.std.proofs.lemmas.List.{get_or-map, length-map}
 use Rattle.std.proofs.lemmas.List.FromFn.{length-enumerate_from, get_or-enumerate_from}
 use Rattle.cc_base.specs.Meaning.{Meaning}
 use Rattle.cc_base.specs.declared.alternatives.Alt.{Alt}
@@ -230,3 +230,22 @@ pub same-running :
     → process_at (next m s e).processes p.0 ≡ process_at s.processes p.0
 same-running m s e p l ne r =
     (StaysAsIt-legal m s e (asker_but p.0 e).0 p.0 l (asker_but p.0 e).1 (running-within s.processes p.0 r)).running (asker-other p e ne) r
+
+-- no process is unmade
+made-if :
+    (m : Meaning) (s : State) (e : Event) (p : ℕ) (b : Bool)
+    → (if b then is_end e else is_allowed m s e) ≡ true
+    → p < length s.processes
+    → p < length (next m s e).processes
+made-if m s (Ask i w) p true l lt = absurd cc
+made-if m s (Accept i a c) p true l lt = absurd cc
+made-if m s (Instant i a) p true l lt = absurd cc
+made-if m s (Expire i a) p true l lt = absurd cc
+made-if m s (Withdraw c) p true l lt = absurd cc
+made-if m s (Time t) p true l lt = absurd cc
+made-if m s End p true l lt =
+    omega (arith, length-map (enumerate_from 0 s.processes) (ended_at_terminate m s), length-enumerate_from 0 s.processes)
+made-if m s e p false l lt = (AllStay-allowed m s e (asker_but p e).0 l (asker_but p e).1 p lt).0
+
+pub still-made : (m : Meaning) (s : State) (e : Event) (p : ℕ) → is_legal m s e ≡ true → p < length s.processes → p < length (next m s e).processes
+still-made m s e p l lt = made-if m s e p (is_due m s) l lt

@@ -23,10 +23,11 @@ pub fn runs_go_on()
     ensures turns { (first more : List Event) → turns (first ++ more) ≡ turns first + turns more }
 {}
 
-/// No event but its own request changes a process that is running, and no event changes the kind or the arguments of a
-/// process.
+/// No event but its own request changes a process that is running. A process that was made stays, and no event changes its
+/// kind or its arguments.
 pub fn running_stays()
     ensures stays { (m : Meaning) (s : State) (e : Event) (p : Pid) → is_legal m s e ≡ true → ((w : Word) → e ≢ Ask p w) → is_running (process_at s.processes p.0).standing ≡ true → process_at (next m s e).processes p.0 ≡ process_at s.processes p.0 }
+    ensures made { (m : Meaning) (s : State) (e : Event) (p : ℕ) → is_legal m s e ≡ true → p < length s.processes → p < length (next m s e).processes }
     ensures kind { (m : Meaning) (s : State) (e : Event) (p : ℕ) → is_legal m s e ≡ true → p < length s.processes → (process_at (next m s e).processes p).kind ≡ (process_at s.processes p).kind }
     ensures args { (m : Meaning) (s : State) (e : Event) (p : ℕ) → is_legal m s e ≡ true → p < length s.processes → (process_at (next m s e).processes p).args ≡ (process_at s.processes p).args }
 {}
@@ -70,7 +71,7 @@ pub fn complete_and_stuck_are_final()
     ensures ended { (m : Meaning) (s : State) → is_due m s ≡ true → is_complete (next m s End) ≡ true }
 {}
 
-/// A run of a well-formed program is one of every program that is alike, with the same states and the same bytes.
+/// A run of a well-formed program is a run of every program that is alike, with the same states and the same bytes.
 pub fn alike_programs_run_alike()
     ensures legal { (m n : Meaning) (input : List ℕ) (events : List Event) → WellFormed m → AreAlike m n → IsRun m input events → IsRun n input events }
     ensures state { (m n : Meaning) (input : List ℕ) (events : List Event) → WellFormed m → AreAlike m n → IsRun m input events → state_after n input events ≡ state_after m input events }

@@ -1,5 +1,8 @@
 //! Small programs with the runs that they have, held against the definitions.
-ghost use Rattle.std.specs.Prelude.{[], ◌∷◌};
+ghost use Rattle.std.specs.Prelude.{◌≡◌, [], ◌∷◌};
+ghost use Rattle.cc_base.specs.declared.names.FaultKind.TheVariants.{CalleeGone};
+ghost use Rattle.cc_rules.specs.Runs.{state_after};
+ghost use Rattle.cc_rules.specs.State.{process_at};
 ghost use Rattle.cc_rules.specs.Stops.{EndsWell};
 ghost use Rattle.cc_rules.specs.Worked.AcceptedInTime as accepted_in_time;
 ghost use Rattle.cc_rules.specs.Worked.CalleeEnded as callee_ended;
@@ -13,6 +16,7 @@ ghost use Rattle.cc_rules.specs.Worked.NoFit as no_fit;
 ghost use Rattle.cc_rules.specs.Worked.Script.{EndsFaulted, EndsStuck, IsRefused, IsWorked, accepts, asks, at_once, withdraws};
 ghost use Rattle.cc_rules.specs.declared.event.Event.TheVariants.{End, Time};
 ghost use Rattle.cc_rules.specs.declared.event.Word.TheVariants as word;
+ghost use Rattle.cc_rules.specs.declared.process.ProcessStanding.TheVariants.{Faulted};
 
 /// Of the calls that may be taken, one of the least `by` is, and the earliest of those.
 fn the_least_rank_is_taken_the_earliest_on_a_tie()
@@ -79,6 +83,9 @@ fn a_process_that_calls_itself_is_stuck()
 fn a_call_of_a_process_that_ended_is_a_fault()
     ensures run { IsWorked callee_ended.caller callee_ended.call_journal [] }
     ensures ends { EndsFaulted callee_ended.caller callee_ended.call_journal }
+    ensures fault { (process_at (state_after callee_ended.caller [] callee_ended.call_journal).processes 0).standing ≡ Faulted CalleeGone }
+    ensures no_number { (state_after callee_ended.caller [] callee_ended.call_journal).drawn ≡ 0 }
+    ensures not_done { IsRefused callee_ended.caller callee_ended.told (asks 0 word.Done) }
 {}
 
 /// An asynchronous call of a process that has ended comes to nothing.

@@ -34,8 +34,12 @@ sender = scripted (0 ∷ 0 ∷ []) (waited 0 0 ∷ unwaited 0 ∷ []) (sender_sc
 abbrev pub ended : List Event
 ended = asks 0 word.Create ∷ asks 0 word.Delay ∷ asks 1 word.Done ∷ Time 1 ∷ expires 0 0 ∷ []
 
+-- the caller is told that the called process is gone
+abbrev pub told : List Event
+told = ended ++ asks 0 word.Call ∷ []
+
 abbrev pub call_journal : List Event
-call_journal = ended ++ asks 0 word.Call ∷ asks 0 word.Fault ∷ []
+call_journal = told ++ asks 0 word.Fault ∷ []
 
 abbrev pub send_journal : List Event
 send_journal = ended ++ asks 0 word.Send ∷ asks 0 word.Done ∷ []

@@ -11,7 +11,7 @@ use Rattle.cc_rules.specs.declared.event.Event.{Event}
 use Rattle.cc_rules.specs.declared.event.Event.TheVariants.{Time}
 use Rattle.cc_rules.specs.declared.event.Word.TheVariants as word
 
--- what a server asks in its select, by its argument
+-- what `main` asks, which gives the server this argument
 abbrev pub main_script : ℤ → List Step
 main_script g = then_ask (Create 1 (g ∷ [])) ∷ then_ask (Send (pid 1) 0 []) ∷ []
 

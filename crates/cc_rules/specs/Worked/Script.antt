@@ -1,4 +1,5 @@
--- Small programs that are written out by hand, and what is shown of them.
+-- Small programs that are written out by hand, and what is shown of them. A script follows its text on the grants of the
+-- run that is shown, and on no others; so do its ranks.
 use Rattle.std.specs.Prelude.{◌≡◌, ℕ, ◌+◌, ◌-◌, ℤ, pos, negsuc, true, false, List, [], ◌∷◌, length, get_or, Option, Some}
 use Rattle.cc_base.specs.Meaning.{Meaning}
 use Rattle.cc_base.specs.declared.names.CallId.{CallId}

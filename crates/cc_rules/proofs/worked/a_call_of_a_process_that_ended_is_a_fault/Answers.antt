@@ -9,4 +9,7 @@ returns c =
     record {
       run = worked callee_ended.caller callee_ended.call_journal [] callee_ended-caller_well refl refl;
       ends = record { complete = refl; fault = refl };
+      fault = refl;
+      no_number = refl;
+      not_done = refl;
     }
