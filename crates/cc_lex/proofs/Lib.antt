@@ -1,0 +1,12 @@
+pub mod Comments
+pub mod Exists
+pub mod Fits
+pub mod Found
+pub mod Standing
+pub mod Numerals
+pub mod Readings
+pub mod Runs
+pub mod Spellings
+pub mod Steps
+pub mod Strings
+pub mod Unique
