@@ -1,4 +1,4 @@
-ghost use Rattle.std.specs.Prelude.{◌≡◌, [], ◌∷◌, ◌++◌, length, slice_get, IfOk, OnOk, OnErr};
+ghost use Rattle.std.specs.Prelude.{◌≡◌, [], ◌∷◌, ◌++◌, length, slice_get, take, IfOk, OnOk, OnErr};
 
 use crate::memory::Memory;
 use std::alloc::Global;
@@ -48,6 +48,13 @@ impl Cells {
         ensures { result ≡ slice_get self.now at }
     {
         self.items.get(at).copied()
+    }
+
+    /// Leaves at most this many cells, the first.
+    pub fn cut(&mut self, len: usize)
+        ensures { self.new ≡ take len self.old }
+    {
+        self.items.truncate(len);
     }
 
     /// The same list, in memory of its own.

@@ -6,12 +6,14 @@
 #![tactic(auto)]
 
 mod alternatives;
+mod behave;
 mod cells;
 mod memory;
 mod names;
 mod request;
 
 pub use alternatives::{Alt, Alts};
+pub use behave::Behave;
 pub use cells::{Bytes, Cells};
 pub use memory::Memory;
 pub use names::{CallId, FaultKind, Pid, Place, Shape};

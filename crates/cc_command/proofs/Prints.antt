@@ -14,7 +14,8 @@ use Rattle.cc_base.specs.Meaning.{Meaning}
 use Rattle.cc_base.specs.declared.request.Grant.{Grant}
 use Rattle.cc_base.specs.declared.request.Grant.TheVariants.{Go}
 use Rattle.cc_base.specs.declared.request.Request.TheVariants.{Print, Done}
-use Rattle.cc_rules.specs.Choice.{numbered, expires_at, has_eligible, is_immediate}
+use Rattle.cc_base.specs.Alternatives.{numbered}
+use Rattle.cc_rules.specs.Choice.{expires_at, has_eligible, is_immediate}
 use Rattle.cc_rules.specs.Ends.{is_complete, has_faulted, is_due}
 use Rattle.cc_rules.specs.Events.{is_legal, next, request_at, same_word, word_of}
 use Rattle.cc_rules.specs.Runs.{IsRunFrom, IsSettled, IsSettledFrom, after, printed_from, event_bytes, bytes_of}

@@ -13,7 +13,8 @@ use Rattle.cc_rules.specs.Alike.{AreAlike}
 use Rattle.cc_rules.specs.Effects.{effect}
 use Rattle.cc_rules.specs.Ends.{is_due}
 use Rattle.cc_rules.specs.Events.{is_legal, next, request_at, same_word, word_of}
-use Rattle.cc_rules.specs.Proper.{IsProper, WellFormed}
+use Rattle.cc_base.specs.Grants.{IsProper}
+use Rattle.cc_base.specs.Requests.{WellFormed}
 use Rattle.cc_rules.specs.Runs.{after, bytes_of, event_bytes, IsRun, IsRunFrom, IsSettled, IsSettledFrom, printed_from}
 use Rattle.cc_rules.specs.Sound.{Sound}
 use Rattle.cc_rules.specs.State.{State, first_state, is_running, process_at}

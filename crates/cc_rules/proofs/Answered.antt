@@ -15,7 +15,7 @@ use Rattle.cc_base.specs.declared.request.Request.{Request}
 use Rattle.cc_rules.proofs.Held.{Held, apart, asked-caller, at_call-within, at-same, at-other, serving-set, Contains-head, Stands-cons, Stands-served, Stands-tail}
 use Rattle.cc_rules.proofs.Proper.{IsProper-push}
 use Rattle.cc_rules.specs.Effects.{answered, caller_of, each_gets_gone, granted, grant_to, waits_for}
-use Rattle.cc_rules.specs.Proper.{Answers}
+use Rattle.cc_base.specs.Grants.{Answers}
 use Rattle.cc_rules.specs.Sound.{asks, SoundProcess, SoundCall, Stands, count_numbered, count_standing, IsAskedBy, IsAwaited}
 use Rattle.cc_rules.specs.State.{Process, nobody, process_at}
 use Rattle.cc_rules.specs.declared.process.ProcessStanding.TheVariants.{Running, AtCall}

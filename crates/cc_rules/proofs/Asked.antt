@@ -12,7 +12,7 @@ use Rattle.cc_base.specs.declared.names.CallId.{CallId}
 use Rattle.cc_base.specs.declared.names.Pid.{Pid}
 use Rattle.cc_rules.proofs.Held.{Held, IsFree, asked-caller, at-other, at-same, serving-set, Stands-served}
 use Rattle.cc_rules.specs.Effects.{caller_of}
-use Rattle.cc_rules.specs.Proper.{argument_cells}
+use Rattle.cc_base.specs.Grants.{argument_cells}
 use Rattle.cc_rules.specs.Sound.{asks, is_call, SoundProcess, SoundCall, Stands, count_numbered, count_standing, IsAskedBy, IsAwaited}
 use Rattle.cc_rules.specs.State.{Process, nobody, process_at, is_over}
 use Rattle.cc_rules.specs.declared.process.ProcessStanding.TheVariants.{AtCall, Ended}

@@ -6,7 +6,7 @@ use Rattle.cc_rules.proofs.Bools.{implies, is-not}
 use Rattle.cc_rules.proofs.Settled.{IsSettled-by_test}
 use Rattle.cc_rules.specs.Ends.{is_unsettled}
 use Rattle.cc_rules.specs.Events.{is_legal, next}
-use Rattle.cc_rules.specs.Proper.{WellFormed}
+use Rattle.cc_base.specs.Requests.{WellFormed}
 use Rattle.cc_rules.specs.Runs.{IsRunFrom, IsSettledFrom, is_turn, printed}
 use Rattle.cc_rules.specs.State.{State, first_state}
 use Rattle.cc_rules.specs.Worked.Script.{IsWorked}

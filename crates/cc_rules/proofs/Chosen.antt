@@ -11,8 +11,9 @@ use Rattle.cc_base.specs.declared.alternatives.Alt.TheVariants.{Accept, After, N
 use Rattle.cc_base.specs.declared.request.Grant.TheVariants.{Took, Chose}
 use Rattle.cc_base.specs.declared.request.Request.{Request}
 use Rattle.cc_base.specs.declared.request.Request.TheVariants.{Select}
-use Rattle.cc_rules.specs.Choice.{alternative_deadline, expires_before, goes_before, is_chosen, is_first_due, is_immediate, numbered, rank}
-use Rattle.cc_rules.specs.Proper.{argument_cells, Answers, NeedsNoCall, TakesArgs}
+use Rattle.cc_base.specs.Alternatives.{numbered}
+use Rattle.cc_rules.specs.Choice.{alternative_deadline, expires_before, goes_before, is_chosen, is_first_due, is_immediate, rank}
+use Rattle.cc_base.specs.Grants.{argument_cells, Answers, NeedsNoCall, TakesArgs}
 use Rattle.cc_rules.specs.Sound.{BelongsTo}
 use Rattle.cc_rules.specs.State.{open_alternatives}
 use Rattle.cc_rules.specs.declared.process.ProcessStanding.{ProcessStanding}

@@ -23,7 +23,7 @@ use Rattle.cc_rules.specs.Accepted.{Fits, IsChosenCall}
 use Rattle.cc_rules.specs.Choice.{accepts, call_numbered, goes_before, is_chosen, rank}
 use Rattle.cc_rules.specs.Ends.{is_due}
 use Rattle.cc_rules.specs.Events.{is_allowed, next, request_at}
-use Rattle.cc_rules.specs.Proper.{WellFormed}
+use Rattle.cc_base.specs.Requests.{WellFormed}
 use Rattle.cc_rules.specs.Runs.{IsRun, IsRunFrom, state_after}
 use Rattle.cc_rules.specs.Sound.{Sound}
 use Rattle.cc_rules.specs.State.{State, first_state, process_at}

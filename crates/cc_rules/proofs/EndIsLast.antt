@@ -10,7 +10,8 @@ use Rattle.cc_base.specs.Meaning.{Meaning}
 use Rattle.cc_rules.proofs.Bools.{both-ways, or-false}
 use Rattle.cc_rules.proofs.CollectiveEnd.{every-at, length-all_ended, over_or_waits}
 use Rattle.cc_rules.proofs.NextStays.{all_ended-at}
-use Rattle.cc_rules.specs.Choice.{accepts, call_numbered, every_process, may_withdraw, expires_at, has_eligible, has_immediate, is_immediate, is_terminate, numbered, some_process}
+use Rattle.cc_base.specs.Alternatives.{numbered}
+use Rattle.cc_rules.specs.Choice.{accepts, call_numbered, every_process, may_withdraw, expires_at, has_eligible, has_immediate, is_immediate, is_terminate, some_process}
 use Rattle.cc_rules.specs.Ends.{has_deadline, has_running, is_complete, is_due, is_stuck, is_unsettled, waits_at_terminate}
 use Rattle.cc_rules.specs.Events.{all_ended, is_allowed, is_end, is_legal, next, request_at, same_word, word_of}
 use Rattle.cc_rules.specs.Runs.{after, IsRun, IsRunFrom, state_after}

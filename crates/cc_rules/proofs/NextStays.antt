@@ -12,7 +12,8 @@ use Rattle.cc_base.specs.declared.names.Pid.{Pid}
 use Rattle.cc_base.specs.declared.request.Grant.{Grant}
 use Rattle.cc_base.specs.declared.request.Grant.TheVariants.{Late, Took, Chose}
 use Rattle.cc_rules.proofs.Stays.{AllStay, AllStay-same, AllStay-idle, AllStay-answered, AllStay-effect}
-use Rattle.cc_rules.specs.Choice.{numbered, call_numbered, accepts, is_chosen, is_immediate, expires_at, has_eligible, has_immediate, is_terminate}
+use Rattle.cc_base.specs.Alternatives.{numbered}
+use Rattle.cc_rules.specs.Choice.{call_numbered, accepts, is_chosen, is_immediate, expires_at, has_eligible, has_immediate, is_terminate}
 use Rattle.cc_rules.specs.Effects.{granted, grant_to}
 use Rattle.cc_rules.specs.Ends.{is_due, waits_at_terminate}
 use Rattle.cc_rules.specs.Events.{is_legal, is_allowed, is_end, accepted, all_ended, expiry_grant, next, request_at, withdrawn}

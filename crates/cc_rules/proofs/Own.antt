@@ -14,7 +14,7 @@ use Rattle.cc_rules.proofs.Held.{Held, Held-set, IsFree, Resets, at-same}
 use Rattle.cc_rules.proofs.NextStays.{running-within}
 use Rattle.cc_rules.proofs.Stays.{AllStay, AllStay-own}
 use Rattle.cc_rules.specs.Effects.{granted, grant_to, with_standing}
-use Rattle.cc_rules.specs.Proper.{Answers}
+use Rattle.cc_base.specs.Grants.{Answers}
 use Rattle.cc_rules.specs.Sound.{asks, BelongsTo, Sound, SoundProcess, count_numbered}
 use Rattle.cc_rules.specs.State.{Process, State, nobody, process_at, is_over, is_running}
 use Rattle.cc_rules.specs.declared.process.ProcessStanding.{ProcessStanding}

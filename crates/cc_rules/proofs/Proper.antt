@@ -3,7 +3,7 @@ use Rattle.std.proofs.Common.{◌≢◌, ℕ, ℤ, List, [], ◌∷◌, ◌++◌
 use Rattle.std.proofs.lemmas.List.{append-nil}
 use Rattle.cc_base.specs.Meaning.{Meaning}
 use Rattle.cc_base.specs.declared.request.Grant.{Grant}
-use Rattle.cc_rules.specs.Proper.{Answers, IsGrantNext, IsProper, IsProperAfter}
+use Rattle.cc_base.specs.Grants.{Answers, IsNext, IsProper, IsProperAfter}
 
 pub push-not-nil : (gs : List Grant) (g : Grant) → gs ++ g ∷ [] ≢ []
 push-not-nil [] g e = cc
@@ -13,13 +13,13 @@ module _ (m : Meaning) (kind : ℕ) (args : List ℤ) where
   IsProperAfter-push :
       (before gs : List Grant) (g : Grant)
       → IsProperAfter m kind args before gs
-      → IsGrantNext m kind args (before ++ gs) g
+      → IsNext m kind args (before ++ gs) g
       → IsProperAfter m kind args before (gs ++ g ∷ [])
   IsProperAfter-push before [] g h k = (rw append-nil at k, tt)
   IsProperAfter-push before (x ∷ gs) g h k =
       (h.0, IsProperAfter-push (before ++ x ∷ []) gs g h.1 (rw (append_assoc before (x ∷ []) gs) k))
 
-  next-answers : (gs : List Grant) (g : Grant) → gs ≢ [] → Answers m (m.act kind args gs) g → IsGrantNext m kind args gs g
+  next-answers : (gs : List Grant) (g : Grant) → gs ≢ [] → Answers m (m.act kind args gs) g → IsNext m kind args gs g
   next-answers [] g ne a = absurd (ne refl)
   next-answers (x ∷ gs) g ne a = a
 
@@ -33,10 +33,10 @@ module _ (m : Meaning) (kind : ℕ) (args : List ℤ) where
   last-next :
       (before gs : List Grant) (g : Grant)
       → IsProperAfter m kind args before (gs ++ g ∷ [])
-      → IsGrantNext m kind args (before ++ gs) g
+      → IsNext m kind args (before ++ gs) g
   last-next before [] g h = rw append-nil h.0
   last-next before (x ∷ gs) g h = rw (append_assoc before (x ∷ []) gs) at (last-next (before ++ x ∷ []) gs g h.1)
 
   -- the last grant was next after those before it
-  pub IsGrantNext-last : (gs : List Grant) (g : Grant) → IsProper m kind args (gs ++ g ∷ []) → IsGrantNext m kind args gs g
-  IsGrantNext-last gs g h = last-next [] gs g h.1
+  pub IsNext-last : (gs : List Grant) (g : Grant) → IsProper m kind args (gs ++ g ∷ []) → IsNext m kind args gs g
+  IsNext-last gs g h = last-next [] gs g h.1

@@ -17,8 +17,9 @@ use Rattle.cc_rules.proofs.Answered.{Held-answered, SoundProcess-granted}
 use Rattle.cc_rules.proofs.Held.{Held-set, IsFree, Resets, at-same, Contains-cons, Contains-head, Contains-nil, Contains-tail}
 use Rattle.cc_rules.proofs.Own.{Held-from_sound, Held-own, there-within, Sound-from_held, own-free, own-sound, own-within, targets-stay}
 use Rattle.cc_rules.proofs.Stays.{AllStay-answered, AllStay-along, AllStay-own}
-use Rattle.cc_rules.specs.Effects.{answered, granted, of_cells, replied, value_cells, without_innermost}
-use Rattle.cc_rules.specs.Proper.{Answers}
+use Rattle.cc_base.specs.Grants.{value_cells}
+use Rattle.cc_rules.specs.Effects.{answered, granted, of_cells, replied, without_innermost}
+use Rattle.cc_base.specs.Grants.{Answers}
 use Rattle.cc_rules.specs.Sound.{asks, IsAskedBy, Sound, SoundProcess, count_numbered}
 use Rattle.cc_rules.specs.State.{Process, State, process_at, is_over, is_running}
 use Rattle.cc_rules.specs.declared.process.TransactionCall.{TransactionCall}

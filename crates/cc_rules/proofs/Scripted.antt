@@ -14,7 +14,7 @@ use Rattle.cc_base.specs.declared.names.Shape.{Shape}
 use Rattle.cc_base.specs.declared.request.Grant.{Grant}
 use Rattle.cc_base.specs.declared.request.Grant.TheVariants.{Go}
 use Rattle.cc_base.specs.declared.request.Request.TheVariants.{Select, Done}
-use Rattle.cc_rules.specs.Proper.{IsAlternativeOf, IsRequestOf, WellFormed}
+use Rattle.cc_base.specs.Requests.{IsAlternativeOf, IsRequestOf, WellFormed}
 use Rattle.cc_rules.specs.Worked.Script.{Step, scripted, then_ask}
 
 -- each step asks a request of the program

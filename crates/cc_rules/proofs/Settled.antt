@@ -14,7 +14,8 @@ use Rattle.cc_base.specs.declared.alternatives.Alt.TheVariants as alt
 use Rattle.cc_rules.proofs.Chosen.{IsOpen, due-open, is-open, some-rank}
 use Rattle.cc_rules.proofs.Own.{there-within}
 use Rattle.cc_rules.proofs.Taken.{find-contained}
-use Rattle.cc_rules.specs.Choice.{accepts, call_numbered, expires, expires_at, expiring_numbers, goes_before, has_eligible, has_immediate, is_acceptable, is_chosen, is_first_due, is_immediate, may_withdraw, numbered, rank, some_process, takes_at_once}
+use Rattle.cc_base.specs.Alternatives.{numbered}
+use Rattle.cc_rules.specs.Choice.{accepts, call_numbered, expires, expires_at, expiring_numbers, goes_before, has_eligible, has_immediate, is_acceptable, is_chosen, is_first_due, is_immediate, may_withdraw, rank, some_process, takes_at_once}
 use Rattle.cc_rules.specs.Ends.{is_due, is_unsettled}
 use Rattle.cc_rules.specs.Events.{is_allowed, is_end, is_legal}
 use Rattle.cc_rules.specs.Runs.{IsSettled, is_settling}

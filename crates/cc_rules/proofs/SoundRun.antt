@@ -13,7 +13,7 @@ use Rattle.cc_rules.proofs.Own.{own-sound}
 use Rattle.cc_rules.proofs.SoundEffect.{Sound-effect, SoundProcess-made}
 use Rattle.cc_rules.specs.Ends.{is_due}
 use Rattle.cc_rules.specs.Events.{is_allowed, is_end, is_legal, next, outcome, request_at, is_time, same_word, word_of}
-use Rattle.cc_rules.specs.Proper.{WellFormed}
+use Rattle.cc_base.specs.Requests.{WellFormed}
 use Rattle.cc_rules.specs.Runs.{after, IsRun, IsRunFrom, state_after}
 use Rattle.cc_rules.specs.Sound.{Sound, SoundProcess, Stands}
 use Rattle.cc_rules.specs.State.{State, first_state, made, process_at, is_over, is_running}

@@ -20,10 +20,11 @@ use Rattle.cc_rules.proofs.Held.{Held-set, Resets, Contains-cons, Contains-head,
 use Rattle.cc_rules.proofs.Own.{Held-from_sound, Held-own, Sound-from_held, targets-all, there-within}
 use Rattle.cc_rules.proofs.Stays.{AllStay-answered, AllStay-idle}
 use Rattle.cc_rules.proofs.Taken.{Held-moved, find-contained, taken-back, taken-count, taken-forth}
-use Rattle.cc_rules.specs.Choice.{accepts, call_deadline, call_numbered, expires_at, has_eligible, has_immediate, is_acceptable, is_chosen, is_first_due, is_immediate, may_withdraw, numbered, takes_at_once}
+use Rattle.cc_base.specs.Alternatives.{numbered}
+use Rattle.cc_rules.specs.Choice.{accepts, call_deadline, call_numbered, expires_at, has_eligible, has_immediate, is_acceptable, is_chosen, is_first_due, is_immediate, may_withdraw, takes_at_once}
 use Rattle.cc_rules.specs.Effects.{answered, granted, grant_to}
 use Rattle.cc_rules.specs.Events.{accepted, expiry_grant, withdrawn, without_call}
-use Rattle.cc_rules.specs.Proper.{Answers}
+use Rattle.cc_base.specs.Grants.{Answers}
 use Rattle.cc_rules.specs.Sound.{asks, BelongsTo, IsAskedBy, Sound, SoundProcess, count_numbered}
 use Rattle.cc_rules.specs.State.{Process, State, nobody, open_alternatives, process_at, is_over, is_running}
 use Rattle.cc_rules.specs.declared.process.ProcessStanding.{ProcessStanding}

@@ -5,7 +5,7 @@ use Rattle.cc_base.specs.declared.alternatives.Alt.TheVariants.{Accept, After, N
 use Rattle.cc_base.specs.declared.request.Grant.{Grant}
 use Rattle.cc_base.specs.declared.request.Grant.TheVariants.{Took, Gone}
 use Rattle.cc_rules.proofs.Scripted.{WellFormed-scripted, select-of}
-use Rattle.cc_rules.specs.Proper.{IsRequestOf, WellFormed}
+use Rattle.cc_base.specs.Requests.{IsRequestOf, WellFormed}
 use Rattle.cc_rules.specs.Worked.AcceptedInTime as accepted_in_time
 use Rattle.cc_rules.specs.Worked.CalleeEnded as callee_ended
 use Rattle.cc_rules.specs.Worked.CallsItself as calls_itself

@@ -7,7 +7,7 @@ use Rattle.cc_base.specs.declared.alternatives.Alt.TheVariants.{Accept}
 use Rattle.cc_base.specs.declared.names.CallId.{CallId}
 use Rattle.cc_base.specs.declared.names.Pid.{Pid}
 use Rattle.cc_base.specs.declared.request.Request.TheVariants.{Select}
-use Rattle.cc_rules.specs.Choice.{numbered}
+use Rattle.cc_base.specs.Alternatives.{numbered}
 use Rattle.cc_rules.specs.Events.{request_at}
 use Rattle.cc_rules.specs.State.{State, process_at}
 use Rattle.cc_rules.specs.declared.process.ProcessStanding.TheVariants.{AtSelect}

@@ -2,7 +2,7 @@
 use Rattle.std.specs.Prelude.{◌≡◌, ℕ, ℤ, List, length, Some, slice_get}
 use Rattle.cc_base.specs.Meaning.{Meaning}
 use Rattle.cc_base.specs.declared.request.Grant.{Grant}
-use Rattle.cc_rules.specs.Proper.{IsProper}
+use Rattle.cc_base.specs.Grants.{IsProper}
 
 -- the meanings have the same kinds, transactions and ranks, and ask the same after grants that are proper
 pub record AreAlike (m n : Meaning) : Type 0 where

@@ -2,6 +2,7 @@
 use Rattle.std.specs.Prelude.{ℕ, ℤ, Bool, true, false, ◌&&◌, ◌||◌, not, if◌then◌else◌, List, [], ◌∷◌, map, Option, Some, None, is_some, find, nat_eq, nat_lt, nat_le, int_lt, int_le}
 use Rattle.std.specs.List.{list_all, list_any, enumerate_from}
 use Rattle.std.specs.Option.{option_map_or}
+use Rattle.cc_base.specs.Alternatives.{numbered}
 use Rattle.cc_base.specs.Meaning.{Meaning}
 use Rattle.cc_base.specs.declared.alternatives.Alt.{Alt}
 use Rattle.cc_base.specs.declared.alternatives.Alt.TheVariants.{Accept, After, Now, Terminate}
@@ -12,11 +13,6 @@ use Rattle.cc_rules.specs.declared.process.ProcessStanding.{ProcessStanding}
 use Rattle.cc_rules.specs.declared.process.ProcessStanding.TheVariants.{Running, AtSelect, AtDelay, AtCall, Ended, Faulted}
 use Rattle.cc_rules.specs.declared.process.Waiting.{Waiting}
 use Rattle.cc_rules.specs.declared.process.Waiting.TheVariants.{Nobody, Caller, Until}
-
--- the alternative of this number
-abbrev pub numbered : List (ℕ × Alt) → ℕ → Option Alt
-numbered [] i = None
-numbered (a ∷ alts) i = if nat_eq a.0 i then Some a.1 else numbered alts i
 
 -- the rank of a call for an alternative of p: its fit, where it is a call at p of the transaction that the alternative
 -- accepts

@@ -1,10 +1,10 @@
 -- What comes of each request.
 use Rattle.std.specs.Prelude.{ℕ, ℤ, pos, negsuc, ◌+◌, ◌-◌, ◌^◌, min, Bool, false, not, if◌then◌else◌, List, [], ◌∷◌, ◌++◌, length, take, set, replicate, slice_get, filter, Option, Some, None, nat_eq, nat_lt}
 use Rattle.std.specs.Option.{option_map_or}
+use Rattle.cc_base.specs.Grants.{value_cells}
 use Rattle.cc_base.specs.Meaning.{Meaning}
 use Rattle.cc_base.specs.declared.names.FaultKind.TheVariants.{TooMany}
 use Rattle.cc_base.specs.declared.names.Pid.{Pid}
-use Rattle.cc_base.specs.declared.names.Shape.{Shape}
 use Rattle.cc_base.specs.declared.request.Grant.{Grant}
 use Rattle.cc_base.specs.declared.request.Grant.TheVariants.{Go, Made, Value, Gone, Byte}
 use Rattle.cc_base.specs.declared.request.Request.{Request}
@@ -97,10 +97,6 @@ called s processes target trans args waiting =
 -- this process was made, and neither has ended nor was stopped
 abbrev pub is_there : State → Pid → Bool
 is_there s p = not (is_over (process_at s.processes p.0).standing)
-
--- the value cells of a transaction
-abbrev pub value_cells : Meaning → ℕ → ℕ
-value_cells m trans = option_map_or (λ (shape : Shape). shape.value) (slice_get m.shapes trans) 0
 
 -- a value of n cells: cut, or filled with zeros
 abbrev pub of_cells : ℕ → List ℤ → List ℤ

@@ -6,7 +6,6 @@ pub mod Ends
 pub mod Events
 pub mod Runs
 pub mod Stops
-pub mod Proper
 pub mod Sound
 pub mod Accepted
 pub mod Alike

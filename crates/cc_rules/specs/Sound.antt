@@ -7,7 +7,7 @@ use Rattle.cc_base.specs.declared.names.Pid.{Pid}
 use Rattle.cc_base.specs.declared.request.Request.{Request}
 use Rattle.cc_base.specs.declared.request.Request.TheVariants.{Pause, Create, Call, TimedCall, Send, Select, Delay, Reply, Print, Get, Done, Fault}
 use Rattle.cc_rules.specs.Effects.{caller_of}
-use Rattle.cc_rules.specs.Proper.{argument_cells, IsProper}
+use Rattle.cc_base.specs.Grants.{argument_cells, IsProper}
 use Rattle.cc_rules.specs.State.{Process, State, process_at, is_over}
 use Rattle.cc_rules.specs.declared.process.TransactionCall.{TransactionCall}
 use Rattle.cc_rules.specs.declared.process.ProcessStanding.{ProcessStanding}

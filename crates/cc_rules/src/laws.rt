@@ -6,7 +6,7 @@ ghost use Rattle.cc_rules.specs.Accepted.{IsChosenCall};
 ghost use Rattle.cc_rules.specs.Alike.{AreAlike};
 ghost use Rattle.cc_rules.specs.Ends.{is_complete, is_due, is_stuck, is_unsettled};
 ghost use Rattle.cc_rules.specs.Events.{is_legal, next};
-ghost use Rattle.cc_rules.specs.Proper.{WellFormed};
+ghost use Rattle.cc_base.specs.Requests.{WellFormed};
 ghost use Rattle.cc_rules.specs.Runs.{after, IsRun, IsRunFrom, IsSettled, IsSettledFrom, IsSettledRun, is_settling, printed, printed_from, state_after, takes_call, turns};
 ghost use Rattle.cc_rules.specs.Sound.{Sound};
 ghost use Rattle.cc_rules.specs.State.{State, first_state, is_running, process_at};

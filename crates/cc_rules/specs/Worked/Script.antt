@@ -11,7 +11,7 @@ use Rattle.cc_base.specs.declared.request.Request.{Request}
 use Rattle.cc_base.specs.declared.request.Request.TheVariants as request
 use Rattle.cc_rules.specs.Events.{is_legal}
 use Rattle.cc_rules.specs.Ends.{has_faulted, is_complete, is_stuck}
-use Rattle.cc_rules.specs.Proper.{WellFormed}
+use Rattle.cc_base.specs.Requests.{WellFormed}
 use Rattle.cc_rules.specs.Runs.{IsRun, IsSettledRun, printed, state_after}
 use Rattle.cc_rules.specs.declared.event.Event.{Event}
 use Rattle.cc_rules.specs.declared.event.Event.TheVariants.{Ask, Accept, Instant, Expire, Withdraw}
