@@ -1,0 +1,14 @@
+pub mod Serving
+pub mod Seated
+pub mod Outs
+pub mod Chosen
+pub mod Simulates
+pub mod Plain
+pub mod Known
+pub mod Settling
+pub mod Listed
+pub mod Readying
+pub mod Requests
+pub mod Replies
+pub mod Keeping
+pub mod Stands

@@ -1,0 +1,86 @@
+-- The kernel keeps its run where it is prepared.
+use Rattle.std.proofs.Common.{◌≡◌, ℕ, ◌≤◌, ℤ, List, length, sym, ap, ◌∙◌, subst, arith, true, false, Option, Some, None}
+use Rattle.std.specs.Prelude.{IfSome, map}
+use Rattle.std.specs.List.{list_any}
+use Rattle.cc_base.specs.Grants.{HasKind}
+use Rattle.cc_base.specs.Meaning.{Meaning}
+use Rattle.cc_base.specs.Requests.{IsRequestOf}
+use Rattle.cc_base.specs.declared.names.Pid.{Pid}
+use Rattle.cc_base.specs.declared.request.Grant.{Grant}
+use Rattle.cc_base.specs.declared.request.Request.{Request}
+use Rattle.cc_base.specs.declared.request.Request.TheVariants.{Create}
+use Rattle.cc_kernel.proofs.Outs.{out-at}
+use Rattle.cc_kernel.proofs.Seated.{Seated-at, out-running}
+use Rattle.cc_kernel.proofs.Serving.{Rising-length}
+use Rattle.cc_kernel.specs.Held.{AsksNow, IsKept, IsReadyFor}
+use Rattle.cc_kernel.specs.Kept.{IsState, Parts, Seated, parts}
+use Rattle.cc_kernel.specs.Seats.{is_out, is_out_in, seat_at}
+use Rattle.cc_kernel.specs.declared.kept.Kept.{Kept}
+use Rattle.cc_kernel.specs.declared.need.Need.{Need}
+use Rattle.cc_kernel.specs.declared.seat.Seat.{Seat}
+use Rattle.cc_rules.specs.Choice.{is_acceptable}
+use Rattle.cc_rules.specs.Events.{request_at}
+use Rattle.cc_rules.specs.Lists.{FaultList}
+use Rattle.cc_rules.specs.Runs.{IsRun, IsSettledRun, state_after}
+use Rattle.cc_rules.specs.State.{State, is_running, process_at}
+use Rattle.cc_rules.specs.declared.event.Event.{Event}
+
+pub where-some : {X : Type 0} (F G : X → Type 0) (o : Option X) → ((x : X) → F x → G x) → IfSome o F → IfSome o G
+where-some F G None f h = h
+where-some F G (Some x) f h = f x h
+
+module _ {P : Type 0} (m : Meaning) (located : P → ℕ → List ℤ → List Grant → Type 0) where
+  -- there are no more pending calls than numbers were drawn
+  pub few-pending : (s : State) (x : Parts P) → IsState located s x → length x.pending ≤ x.drawn
+  few-pending s x k = let h = Rising-length 0 s.pending s.drawn k.rising in rw (k.pending, k.drawn) (omega (arith, h))
+
+  -- a process that is out is running
+  pub out-runs :
+      (s : State) (seats : List (Seat P)) (p : ℕ)
+      → Seated located s.processes seats
+      → is_out_in (map is_out seats) p ≡ true
+      → is_running (process_at s.processes p).standing ≡ true
+  out-runs s seats p k h =
+      let there = out-at seats p h in
+      out-running located (process_at s.processes p) (seat_at seats p) (Seated-at located s.processes seats p there.0 k) there.1
+
+  -- a Create that is asked now is of a kind that exists
+  pub kind-asked :
+      (input : List ℕ) (events : List Event) (seats : List (Seat P)) (r : Request)
+      → Seated located (state_after m input events).processes seats
+      → ((p : Pid) → is_running (process_at (state_after m input events).processes p.0).standing ≡ true → IsRequestOf m (request_at m (state_after m input events) p))
+      → AsksNow m input events (map is_out seats) r
+      → (kind : ℕ) (args : List ℤ)
+      → r ≡ Create kind args
+      → HasKind m kind (length args)
+  kind-asked input events seats r k known a kind args e =
+      let F : Request → Type 0 = λ x. IsRequestOf m x in
+      subst F (sym a.2 ∙ e) (known a.0 (out-runs (state_after m input events) seats a.0.0 k a.1))
+
+  -- room is made
+  pub kept-prepared :
+      (allowed spent : ℕ) (events : List Event) (room room' : ℕ) (kept kept' : Kept P) (x x' : Need P) (faults : FaultList)
+      → IsKept m located allowed spent events room kept x faults
+      → parts kept' ≡ parts kept
+      → IsReadyFor m located kept' room' x'
+      → IsKept m located allowed spent events room' kept' x' faults
+  kept-prepared allowed spent events room room' kept kept' x x' faults k same ready =
+      let same-input : kept'.input ≡ kept.input = ap (λ (y : Parts P). y.input) same in
+      let same-drawn : kept'.drawn ≡ kept.drawn = ap (λ (y : Parts P). y.drawn) same in
+      record {
+        runs = (let F : List ℕ → Type 0 = λ input. IsRun m input events in subst F (sym same-input) k.runs);
+        settled = (let F : List ℕ → Type 0 = λ input. IsSettledRun m input events in subst F (sym same-input) k.settled);
+        state =
+            (let F : List ℕ → Type 0 = λ input. IsState located (state_after m input events) (parts kept') in
+            let G : Parts P → Type 0 = λ y. IsState located (state_after m kept.input events) y in
+            subst F (sym same-input) (subst G (sym same) k.state));
+        quiet =
+            (let F : List ℕ → Type 0 = λ input. list_any (is_acceptable m (state_after m input events)) (state_after m input events).pending ≡ false in
+            subst F (sym same-input) k.quiet);
+        spent_turns = k.spent_turns;
+        within = k.within;
+        low = (let l = k.low in omega (arith, l, same-drawn));
+        ready = ready;
+        unlisted = k.unlisted;
+        listable = k.listable;
+      }

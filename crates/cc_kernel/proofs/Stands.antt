@@ -1,0 +1,167 @@
+-- How a run stands, as the seats tell it.
+use Rattle.std.proofs.Common.{◌≡◌, ℕ, zero, suc, ℤ, Bool, true, false, ◌&&◌, ◌||◌, not, List, [], ◌∷◌, refl, sym, ap, ◌∙◌, nat_eq, ◌≢◌, ◌<◌, ◌≤◌, arith}
+use Rattle.std.proofs.lemmas.Bool.Decides.{nat_tests}
+use Rattle.std.specs.Prelude.{if◌then◌else◌}
+use Rattle.std.specs.List.{list_all, list_any}
+use Rattle.cc_base.specs.Meaning.{Meaning}
+use Rattle.cc_base.specs.declared.request.Grant.{Grant}
+use Rattle.cc_kernel.proofs.Plain.{no-deadlines, not-unsettled}
+use Rattle.cc_kernel.proofs.Seated.{plain-at, same-standing}
+use Rattle.cc_kernel.specs.Seats.{seat_at}
+use Rattle.cc_kernel.specs.Kept.{IsState, Parts, Seated}
+use Rattle.cc_kernel.specs.Standing.{deadlines, least, standing_in}
+use Rattle.cc_kernel.specs.declared.seat.Seat.{Seat}
+use Rattle.cc_rules.specs.Choice.{is_acceptable}
+use Rattle.cc_rules.specs.Ends.{has_deadline, has_faulted, has_running, is_complete, is_unsettled}
+use Rattle.cc_rules.specs.State.{Process, State, is_faulted, is_over, is_running, process_at}
+use Rattle.cc_rules.specs.declared.event.Standing.{Standing}
+use Rattle.cc_rules.specs.declared.event.Standing.TheVariants.{Going, Idle, Ended, Stuck, Spent}
+use Rattle.cc_rules.specs.declared.process.ProcessStanding.{ProcessStanding}
+use Rattle.cc_rules.specs.declared.process.ProcessStanding.TheVariants.{Running, AtSelect, AtDelay, AtCall, Faulted}
+use Rattle.cc_rules.specs.declared.process.ProcessStanding.TheVariants as process
+
+-- how a state stands, by its tests
+shape : Bool → Bool → Bool → Bool → Bool → Bool → ℕ → Standing
+shape complete running unsettled deadline spent faulted until =
+    if complete
+    then Ended faulted
+    else
+    (if not complete && not running && not unsettled && not deadline
+    then Stuck
+    else (if spent then Spent else (if not running && deadline then Idle until else Going)))
+
+-- how it stands where it is settled and no deadline stands
+abbrev pub plain_shape : Bool → Bool → Bool → Bool → Standing
+plain_shape over running spent faulted =
+    if over then Ended faulted else (if running then (if spent then Spent else Going) else Stuck)
+
+plain-shape : (over running spent faulted : Bool) (until : ℕ) → shape over running false false spent faulted until ≡ plain_shape over running spent faulted
+unfolding shape
+plain-shape true running spent faulted until = refl
+plain-shape false true true faulted until = refl
+plain-shape false true false faulted until = refl
+plain-shape false false spent faulted until = refl
+
+shape-is :
+    (m : Meaning) (s : State) (spent allowed : ℕ)
+    → standing_in m s spent allowed
+    ≡ shape (is_complete s) (has_running s) (is_unsettled m s) (has_deadline s) (nat_eq spent allowed) (has_faulted s) (least (deadlines s))
+unfolding shape
+shape-is m s spent allowed = refl
+
+module _ {P : Type 0} (located : P → ℕ → List ℤ → List Grant → Type 0) where
+  all-same :
+      (f : ProcessStanding → Bool) (qs : List Process) (seats : List (Seat P))
+      → Seated located qs seats
+      → list_all (λ q. f q.standing) qs ≡ list_all (λ seat. f seat.standing) seats
+  all-same f [] [] h = refl
+  all-same f (q ∷ qs) (seat ∷ seats) h = rw (h.0.standing, all-same f qs seats h.1) refl
+  all-same f [] (seat ∷ seats) h = absurd h
+  all-same f (q ∷ qs) [] h = absurd h
+
+  any-same :
+      (f : ProcessStanding → Bool) (qs : List Process) (seats : List (Seat P))
+      → Seated located qs seats
+      → list_any (λ q. f q.standing) qs ≡ list_any (λ seat. f seat.standing) seats
+  any-same f [] [] h = refl
+  any-same f (q ∷ qs) (seat ∷ seats) h = rw (h.0.standing, any-same f qs seats h.1) refl
+  any-same f [] (seat ∷ seats) h = absurd h
+  any-same f (q ∷ qs) [] h = absurd h
+
+  -- how it stands, by the seats
+  pub stands-as :
+      (m : Meaning) (s : State) (x : Parts P) (spent allowed : ℕ)
+      → IsState located s x
+      → list_any (is_acceptable m s) s.pending ≡ false
+      → standing_in m s spent allowed
+      ≡ plain_shape (list_all (λ seat. is_over seat.standing) x.seats) (list_any (λ seat. is_running seat.standing) x.seats)
+      (nat_eq spent allowed) (list_any (λ seat. is_faulted seat.standing) x.seats)
+  stands-as m s x spent allowed k quiet =
+      let plain = λ (p : ℕ). plain-at located s.processes x.seats p k.seated in
+      let until = least (deadlines s) in
+      shape-is m s spent allowed
+      ∙ ap (λ b. shape (is_complete s) (has_running s) b (has_deadline s) (nat_eq spent allowed) (has_faulted s) until) (not-unsettled m s plain k.awaited quiet)
+      ∙ ap (λ b. shape (is_complete s) (has_running s) false b (nat_eq spent allowed) (has_faulted s) until) (no-deadlines s plain k.awaited)
+      ∙ plain-shape (is_complete s) (has_running s) (nat_eq spent allowed) (has_faulted s) until
+      ∙ ap (λ b. plain_shape b (has_running s) (nat_eq spent allowed) (has_faulted s)) (all-same is_over s.processes x.seats k.seated)
+      ∙ ap (λ b. plain_shape (list_all (λ seat. is_over seat.standing) x.seats) b (nat_eq spent allowed) (has_faulted s)) (any-same is_running s.processes x.seats k.seated)
+      ∙ ap (λ b. plain_shape (list_all (λ seat. is_over seat.standing) x.seats) (list_any (λ seat. is_running seat.standing) x.seats) (nat_eq spent allowed) b) (any-same is_faulted s.processes x.seats k.seated)
+
+pub shape-spent : (over running spent faulted : Bool) → over ≡ false → running ≡ true → spent ≡ true → plain_shape over running spent faulted ≡ Spent
+shape-spent over running spent faulted h k l = rw (h, k, l) refl
+
+pub shape-going : (over running spent faulted : Bool) → over ≡ false → running ≡ true → spent ≡ false → plain_shape over running spent faulted ≡ Going
+shape-going over running spent faulted h k l = rw (h, k, l) refl
+
+pub shape-stuck : (over running spent faulted : Bool) → over ≡ false → running ≡ false → plain_shape over running spent faulted ≡ Stuck
+shape-stuck over running spent faulted h k = rw (h, k) refl
+
+pub shape-ended : (over running spent faulted b : Bool) → over ≡ true → faulted ≡ b → plain_shape over running spent faulted ≡ Ended b
+shape-ended over running spent faulted b h k = rw (h, k) refl
+
+pub same-count : (a b c : ℕ) → a ≡ c → a ≡ b → nat_eq c b ≡ true
+same-count a b c e h = grind (arith, nat_tests)
+
+pub other-count : (a b c : ℕ) → a ≡ c → a ≢ b → nat_eq c b ≡ false
+other-count a b c e h = grind (arith, nat_tests)
+
+any-running : {P : Type 0} (seats : List (Seat P)) (i : ℕ) → is_running (seat_at seats i).standing ≡ true → list_any (λ seat. is_running seat.standing) seats ≡ true
+any-running [] i h = cc
+any-running (seat ∷ seats) zero h = rw h refl
+any-running (seat ∷ seats) (suc i) h = or-behind (is_running seat.standing) (list_any (λ other. is_running other.standing) seats) (any-running seats i h)
+  where
+    or-behind : (a b : Bool) → b ≡ true → (a || b) ≡ true
+    or-behind true b h = refl
+    or-behind false b h = h
+
+not-all-over : {P : Type 0} (seats : List (Seat P)) (i : ℕ) → is_running (seat_at seats i).standing ≡ true → list_all (λ seat. is_over seat.standing) seats ≡ false
+not-all-over [] i h = cc
+not-all-over (seat ∷ seats) zero h = and-first (is_over seat.standing) (list_all (λ other. is_over other.standing) seats) (running-on seat.standing h)
+  where
+    and-first : (a b : Bool) → a ≡ false → (a && b) ≡ false
+    and-first true b h = cc
+    and-first false b h = refl
+
+    running-on : (x : ProcessStanding) → is_running x ≡ true → is_over x ≡ false
+    running-on Running h = refl
+    running-on (AtSelect alts asked) h = cc
+    running-on (AtDelay deadline) h = cc
+    running-on (AtCall call) h = cc
+    running-on process.Ended h = cc
+    running-on (Faulted kind) h = cc
+not-all-over (seat ∷ seats) (suc i) h = and-behind (is_over seat.standing) (list_all (λ other. is_over other.standing) seats) (not-all-over seats i h)
+  where
+    and-behind : (a b : Bool) → b ≡ false → (a && b) ≡ false
+    and-behind true b h = h
+    and-behind false b h = refl
+
+-- a run with turns left in which a process is running goes on
+pub running-goes :
+    {P : Type 0} (located : P → ℕ → List ℤ → List Grant → Type 0) (m : Meaning) (s : State) (x : Parts P) (spent allowed i : ℕ)
+    → IsState located s x
+    → list_any (is_acceptable m s) s.pending ≡ false
+    → nat_eq spent allowed ≡ false
+    → is_running (process_at s.processes i).standing ≡ true
+    → standing_in m s spent allowed ≡ Going
+running-goes located m s x spent allowed i k quiet left h =
+    let r : is_running (seat_at x.seats i).standing ≡ true = ap is_running (same-standing located s.processes x.seats i k.seated) ∙ h in
+    stands-as located m s x spent allowed k quiet
+    ∙ shape-going _ _ _ _ (not-all-over x.seats i r) (any-running x.seats i r) left
+
+shape-left : (over running spent faulted : Bool) → plain_shape over running spent faulted ≡ Going → spent ≡ false
+shape-left true running spent faulted h = cc
+shape-left false true true faulted h = cc
+shape-left false true false faulted h = refl
+shape-left false false spent faulted h = cc
+
+-- a run that goes on has turns left
+pub going-left :
+    {P : Type 0} (located : P → ℕ → List ℤ → List Grant → Type 0) (m : Meaning) (s : State) (x : Parts P) (spent allowed : ℕ)
+    → IsState located s x
+    → list_any (is_acceptable m s) s.pending ≡ false
+    → standing_in m s spent allowed ≡ Going
+    → nat_eq spent allowed ≡ false
+going-left located m s x spent allowed k quiet h = shape-left _ _ (nat_eq spent allowed) _ (sym (stands-as located m s x spent allowed k quiet) ∙ h)
+
+pub below-allowed : (spent turns allowed : ℕ) → spent ≡ turns → spent ≤ allowed → nat_eq turns allowed ≡ false → spent < allowed
+below-allowed spent turns allowed e le h = grind (arith, nat_tests)

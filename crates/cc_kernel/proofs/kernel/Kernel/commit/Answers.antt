@@ -1,0 +1,61 @@
+use Rattle.std.proofs.Common.{◌<◌, length, ◌∙◌}
+use Rattle.cc_kernel.proofs.Keeping.{all-served, kept-commit}
+use Rattle.cc_kernel.proofs.Known.{known-served}
+use Rattle.cc_kernel.proofs.Outs.{out-at}
+use Rattle.cc_kernel.proofs.Seated.{Seated-at, out-running}
+use Rattle.cc_kernel.proofs.Stands.{below-allowed, going-left}
+use Rattle.cc_kernel.specs.Kept.{parts}
+use Rattle.cc_kernel.specs.Seats.{seat_at}
+use Rattle.cc_rules.specs.Runs.{state_after, turns}
+use Rattle.cc_rules.specs.State.{process_at}
+use Rattle.cc_kernel.proofs.kernel.Kernel.commit.Goals as goal
+
+pub serve-bytes-requires-clause-ready : goal.serve-bytes-requires-clause-ready
+serve-bytes-requires-clause-ready g c =
+    (c.self.inside.journal.spare, rw (c.deref.ensures, c.replace-need.ensures.value) c.self.invariant.ready)
+
+pub serve-bytes-requires-clause-known : goal.serve-bytes-requires-clause-known
+serve-bytes-requires-clause-known g c =
+    let k = c.self.inside in
+    rw c.deref.ensures
+    (all-served (λ call. call.trans < length (g.B.Behave.means k.code.value).shapes) (g.B.Behave.at k.code.value)
+    (state_after (g.B.Behave.means k.code.value) k.kept.input k.journal.items) (parts k.kept) c.self.invariant.state
+    (known-served (g.B.Behave.means k.code.value)
+    (g.met.B.Behave.well_formed k.code.value) k.kept.input k.journal.items c.self.invariant.runs))
+
+pub invariant_of-self : goal.invariant_of-self
+invariant_of-self g c =
+    let k = c.self.inside in
+    let inv = c.self.invariant in
+    let out = rw (← c.self.view_is) at c.requires.out in
+    let asks = rw (← c.self.view_is) at c.requires.asks in
+    let going = rw (← c.self.view_is) at c.requires.going in
+    let there = out-at k.kept.seats.items c.args.pid.0 out.0 in
+    let running =
+    out-running (g.B.Behave.at k.code.value)
+    (process_at (state_after (g.B.Behave.means k.code.value) k.kept.input k.journal.items).processes c.args.pid.0)
+    (seat_at k.kept.seats.items c.args.pid.0)
+    (Seated-at (g.B.Behave.at k.code.value) (state_after (g.B.Behave.means k.code.value) k.kept.input k.journal.items).processes k.kept.seats.items c.args.pid.0 there.0 inv.state.seated)
+    there.1 in
+    let left =
+    below-allowed k.spent (turns k.journal.items) k.turns inv.spent_turns inv.within
+    (going-left (g.B.Behave.at k.code.value) (g.B.Behave.means k.code.value) (state_after (g.B.Behave.means k.code.value) k.kept.input k.journal.items) (parts k.kept)
+    (turns k.journal.items) k.turns inv.state inv.quiet going) in
+    let served = rw c.deref.ensures at c.serve-bytes.ensures.state in
+    let settles = rw (c.deref-2.ensures, c.add.ensures.items, c.word-word.ensures) at c.settle.ensures.settles in
+    rw c.replace-need.ensures.after
+    (kept-commit (g.B.Behave.means k.code.value) (g.B.Behave.at k.code.value)
+    k.turns k.spent k.journal.items c.settle.new.journal.items k.journal.spare c.settle.new.journal.spare
+    k.kept c.serve-bytes.new.kept c.settle.new.kept k.need k.faults c.args.pid c.args.request
+    inv running asks left
+    c.serve-bytes.ensures.drawn
+    c.settle.ensures.drawn
+    (c.settle.ensures.input ∙ c.serve-bytes.ensures.input)
+    (served (state_after (g.B.Behave.means k.code.value) k.kept.input k.journal.items) inv.state out.1)
+    settles)
+
+pub returns-clause-runs : goal.returns-clause-runs
+returns-clause-runs g c = (invariant_of-self g c).runs
+
+pub returns-clause-settled : goal.returns-clause-settled
+returns-clause-settled g c = (invariant_of-self g c).settled

@@ -1,0 +1,109 @@
+-- The seats of the processes, and the calls that they serve, as lists.
+use Rattle.std.specs.Prelude.{◌≡◌, ℕ, Bool, true, false, List, [], ◌∷◌, ◌++◌, get_or, set, nat_eq, if◌then◌else◌}
+use Rattle.std.specs.List.{filter}
+use Rattle.std.specs.Option.{option_map_or}
+use Rattle.cc_base.specs.declared.request.Grant.{Grant}
+use Rattle.cc_base.specs.declared.request.Grant.TheVariants.{Gone}
+use Rattle.cc_kernel.specs.declared.seat.Place.{Place}
+use Rattle.cc_kernel.specs.declared.seat.Place.TheVariants.{Ready, Out, Waits, Left}
+use Rattle.cc_kernel.specs.declared.seat.Seat.{Seat}
+use Rattle.cc_kernel.specs.declared.served.ServedCall.{ServedCall}
+use Rattle.cc_rules.specs.Effects.{caller_of, waits_for}
+use Rattle.cc_rules.specs.declared.process.ProcessStanding.{ProcessStanding}
+use Rattle.cc_rules.specs.declared.process.ProcessStanding.TheVariants.{Running, Ended}
+use Rattle.cc_rules.specs.declared.process.TransactionCall.{TransactionCall}
+use Rattle.cc_rules.specs.declared.process.Waiting.TheVariants.{Nobody}
+
+-- the call without its arguments
+abbrev pub served_call : TransactionCall → ServedCall
+served_call call = record { number = call.number; target = call.target; trans = call.trans; waiting = call.waiting }
+
+abbrev pub is_served_by : ℕ → ServedCall → Bool
+is_served_by p call = nat_eq call.target.0 p
+
+-- what stands for a call where there is none
+abbrev pub no_call : TransactionCall
+no_call = record { number = record { 0 = 0 }; target = record { 0 = 0 }; trans = 0; args = []; waiting = Nobody }
+
+abbrev pub no_served : ServedCall
+no_served = record { number = record { 0 = 0 }; target = record { 0 = 0 }; trans = 0; waiting = Nobody }
+
+-- the call is the last of this server in the first list, and the second is what is left
+pub record SplitsAt (server : ℕ) (call : ServedCall) (old new : List ServedCall) : Type 0 where
+  pub before : List ServedCall
+  pub behind : List ServedCall
+  pub whole : old ≡ before ++ call ∷ behind
+  pub rest : new ≡ before ++ behind
+  pub own : is_served_by server call ≡ true
+  pub last : filter (is_served_by server) behind ≡ []
+
+module _ {P : Type 0} where
+  -- what stands for the seat of a process that was never made
+  abbrev pub vacant : Seat P
+  vacant = record { standing = Ended; place = Left }
+
+  abbrev pub seat_at : List (Seat P) → ℕ → Seat P
+  seat_at seats p = get_or seats p vacant
+
+  abbrev pub is_out_place : Place P → Bool
+  is_out_place (Ready process grant) = false
+  is_out_place Out = true
+  is_out_place (Waits process) = false
+  is_out_place Left = false
+
+  -- the process is out
+  abbrev pub is_out : Seat P → Bool
+  is_out seat = is_out_place seat.place
+
+  abbrev pub is_ready_place : Place P → Bool
+  is_ready_place (Ready process grant) = true
+  is_ready_place Out = false
+  is_ready_place (Waits process) = false
+  is_ready_place Left = false
+
+  -- the process is here and may go on
+  abbrev pub is_ready : Seat P → Bool
+  is_ready seat = is_ready_place seat.place
+
+  abbrev pub with_ready : P → Grant → Seat P
+  with_ready process grant = record { standing = Running; place = Ready process grant }
+
+  abbrev pub with_out : Seat P → Seat P
+  with_out seat = record { standing = seat.standing; place = Out }
+
+  abbrev pub with_waiting : P → ProcessStanding → Seat P
+  with_waiting process standing = record { standing = standing; place = Waits process }
+
+  abbrev pub with_left : ProcessStanding → Seat P
+  with_left standing = record { standing = standing; place = Left }
+
+  abbrev pub woken_place : Place P → Grant → Place P
+  woken_place (Ready process old) grant = Ready process old
+  woken_place Out grant = Out
+  woken_place (Waits process) grant = Ready process grant
+  woken_place Left grant = Left
+
+  -- a process that waits goes on with this grant
+  abbrev pub woken : Seat P → Grant → Seat P
+  woken seat grant = record { standing = Running; place = woken_place seat.place grant }
+
+  -- the caller of this call, where one waits, goes on with this grant
+  abbrev pub answered_seats : List (Seat P) → ServedCall → Grant → List (Seat P)
+  answered_seats seats call grant =
+      option_map_or
+      (λ caller. if waits_for call.number.0 (seat_at seats caller.0).standing then set seats caller.0 (woken (seat_at seats caller.0) grant) else seats)
+      (caller_of call.waiting)
+      seats
+
+  -- the caller of each of these calls, where one waits, goes on with Gone
+  abbrev pub gone_seats : List (Seat P) → List ServedCall → List (Seat P)
+  gone_seats seats [] = seats
+  gone_seats seats (call ∷ calls) = gone_seats (answered_seats seats call Gone) calls
+
+-- the process of this number is out
+abbrev pub is_out_in : List Bool → ℕ → Bool
+is_out_in outs p = get_or outs p false
+
+-- the same processes are out
+abbrev pub SameOuts : List Bool → List Bool → Type 0
+SameOuts outs outs' = (p : ℕ) → is_out_in outs p ≡ is_out_in outs' p

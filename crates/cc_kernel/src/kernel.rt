@@ -1,0 +1,223 @@
+ghost use Rattle.std.specs.Prelude.{◌≡◌, ◌≤◌, ◌++◌, ◌⊎◌, [], ◌∷◌, false, true, IfOk, IfNone, IfSome, OnErr, OnOk, Some, set, slice_get};
+ghost use Rattle.cc_kernel.specs.Faults.{faults_from};
+ghost use Rattle.cc_kernel.specs.Held.{AllOut, AsksNow, IsOutWith, IsOver, IsPreparedFor, IsReadyWith, IsServed, Moment, Nothing, StepsOn};
+ghost use Rattle.cc_kernel.specs.Seats.{SameOuts, is_out_in};
+ghost use Rattle.cc_kernel.specs.Standing.{standing_of};
+ghost use Rattle.cc_rules.specs.Events.{request_at, word_of};
+ghost use Rattle.cc_rules.specs.Runs.{IsRun, IsSettledRun, bytes_of, state_after, turns};
+ghost use Rattle.cc_rules.specs.declared.event.Standing.TheVariants.{Going};
+
+use crate::asks::MOST_PROCESSES;
+use crate::calls::{Pending, Served};
+use crate::faults::list_faults;
+use crate::kept::Kept;
+use crate::need::Need;
+use crate::prepare::{make_room, need_of};
+use crate::seat::{Place, Seat};
+use crate::seats::Seats;
+use crate::serve::serve;
+use crate::settle::settle;
+use cc_base::{Behave, Bytes, Cells, Grant, Memory, Pid, Request};
+use cc_rules::{Event, Faults, Journal, ProcessStanding, Standing, Word};
+use std::alloc::Global;
+use std::marker::Model;
+use std::mem;
+use std::sync::Arc;
+
+/// A run of a program so far, and the processes that are at rest.
+#[derive(Drop)]
+pub struct Kernel<B: Behave> {
+    alloc: Global,
+    code: Arc<B>,
+    turns: u32,
+    spent: u32,
+    journal: Journal,
+    kept: Kept<B::Proc>,
+    need: Need<B::Proc>,
+    faults: Faults,
+}
+
+impl<B: Behave> Model for Kernel<B> {
+    ghost use Rattle.std.specs.Prelude.{map};
+    ghost use Rattle.cc_kernel.specs.Held.{Held, IsKept, prepared_for};
+    ghost use Rattle.cc_kernel.specs.Seats.{is_out};
+
+    ghost Value = { Held B };
+
+    ghost view = { λ k. record { code = k.code.value; input = k.kept.input; turns = k.turns; journal = k.journal.items; outs = map is_out k.kept.seats.items; prepared = prepared_for k.need } };
+
+    ghost invariant = { λ k. IsKept (B.means k.code.value) (B.at k.code.value) k.turns k.spent k.journal.items k.journal.spare k.kept k.need k.faults };
+}
+
+impl<B: Behave> Kernel<B> {
+    /// The program with no event yet. Its first process is ready.
+    pub fn open(alloc: Global, code: Arc<B>, input: Bytes, turns: u32) -> Result<Kernel<B>, Memory>
+        ensures code { IfOk result (λ k. k.code ≡ code.value) }
+        ensures input { IfOk result (λ k. k.input ≡ input) }
+        ensures turns { IfOk result (λ k. k.turns ≡ turns) }
+        ensures journal { IfOk result (λ k. k.journal ≡ []) }
+        ensures outs { IfOk result (λ k. k.outs ≡ false ∷ []) }
+        ensures prepared { IfOk result (λ k. k.prepared ≡ Nothing) }
+    {
+        let process = B::start(&code, alloc, 0, Cells::new(alloc))?;
+        let mut seats = Seats::new(alloc);
+        seats.reserve(1)?;
+        seats.add(Seat {
+            standing: ProcessStanding::Running,
+            place: Place::Ready {
+                process,
+                grant: Grant::Go,
+            },
+        });
+        let mut faults = Faults::new(alloc);
+        faults.reserve(MOST_PROCESSES)?;
+        Ok(Kernel {
+            alloc,
+            code,
+            turns,
+            spent: 0,
+            journal: Journal::new(alloc),
+            kept: Kept {
+                seats,
+                pending: Pending::new(alloc),
+                served: Served::new(alloc),
+                drawn: 0,
+                input,
+                taken: 0,
+                moment: 0,
+            },
+            need: Need::Nothing,
+            faults,
+        })
+    }
+
+    /// Makes all that the next step needs: that of a process that asks this, or of a Time. After an error the meaning is as
+    /// it was.
+    pub fn prepare(&mut self, next: Option<&Request>) -> Result<(), Memory>
+        requires asks { IfSome next (λ r. AsksNow (B.means self.old.code) self.old.input self.old.journal self.old.outs r.now) }
+        requires served { IfSome next (λ r. IsServed r.now) }
+        ensures request { IfSome next.entry (λ r. OnOk result (IsPreparedFor self.new r.now)) }
+        ensures time { IfNone next.entry (OnOk result (self.new.prepared ≡ Moment)) }
+        ensures rest { self.new ≡ record self.old { prepared = self.new.prepared } }
+        ensures err { OnErr result (self.new ≡ self.old) }
+    {
+        let need = need_of(&self.code, self.alloc, self.kept.served.as_slice(), next)?;
+        make_room(&mut self.kept, &mut self.journal)?;
+        self.need = need;
+        Ok(())
+    }
+
+    /// The process asks this, and goes on as the machine says. Then every call is taken that can be taken. Gives the bytes
+    /// of a Print.
+    pub fn commit(&mut self, pid: Pid, process: B::Proc, request: Request) -> Bytes
+        requires prepared { IsPreparedFor self.old request }
+        requires out { IsOutWith (B.means self.old.code) (B.at self.old.code) self.old.input self.old.journal self.old.outs pid.0 process }
+        requires asks { request ≡ request_at (B.means self.old.code) (state_after (B.means self.old.code) self.old.input self.old.journal) pid }
+        requires going { standing_of (B.means self.old.code) self.old.input self.old.journal self.old.turns ≡ Going }
+        requires served { IsServed request }
+        ensures code { self.new.code ≡ self.old.code }
+        ensures input { self.new.input ≡ self.old.input }
+        ensures turns { self.new.turns ≡ self.old.turns }
+        ensures steps { StepsOn self.old.journal self.new.journal pid request }
+        ensures runs { IsRun (B.means self.new.code) self.new.input self.new.journal }
+        ensures settled { IsSettledRun (B.means self.new.code) self.new.input self.new.journal }
+        ensures outs { SameOuts self.new.outs (set self.old.outs pid.0 false) }
+        ensures prepared { self.new.prepared ≡ Nothing }
+        ensures bytes { result ≡ bytes_of request }
+    {
+        let word = word(&request);
+        let need = mem::replace(&mut self.need, Need::Nothing);
+        let bytes = serve(
+            &*self.code,
+            self.alloc,
+            &mut self.kept,
+            pid,
+            process,
+            request,
+            need,
+        );
+        self.journal.add(Event::Ask { pid, word });
+        self.spent += 1;
+        settle(&*self.code, &mut self.kept, &mut self.journal);
+        bytes
+    }
+
+    /// Takes a process out that is ready, with the grant that it is still to be given.
+    pub fn pick(&mut self) -> Option<(Pid, B::Proc, Grant)>
+        ensures none { IfNone result (AllOut (B.means self.old.code) self.old.input self.old.journal self.old.outs ⊎ IsOver (standing_of (B.means self.old.code) self.old.input self.old.journal self.old.turns)) }
+        ensures same { IfNone result (self.new ≡ self.old) }
+        ensures going { IfSome result (λ r. standing_of (B.means self.old.code) self.old.input self.old.journal self.old.turns ≡ Going) }
+        ensures ready { IfSome result (λ r. IsReadyWith (B.means self.old.code) (B.at self.old.code) self.old.input self.old.journal r.0.0 r.1 r.2) }
+        ensures was_in { IfSome result (λ r. is_out_in self.old.outs r.0.0 ≡ false) }
+        ensures out { IfSome result (λ r. self.new ≡ record self.old { outs = set self.old.outs r.0.0 true }) }
+    {
+        if self.spent == self.turns {
+            return None;
+        }
+        let Some(at) = self.kept.seats.first_ready() else {
+            return None;
+        };
+        match self.kept.seats.take(at) {
+            Some((process, grant)) => Some((Pid(at as u32), process, grant)),
+            None => unreachable!(),
+        }
+    }
+
+    /// How the run stands.
+    pub fn state(&self) -> Standing
+        ensures { result ≡ standing_of (B.means self.now.code) self.now.input self.now.journal self.now.turns }
+    {
+        if self.kept.seats.all_over() {
+            return Standing::Ended {
+                faulted: self.kept.seats.some_faulted(),
+            };
+        }
+        if !self.kept.seats.some_running() {
+            return Standing::Stuck;
+        }
+        if self.spent == self.turns {
+            return Standing::Spent;
+        }
+        Standing::Going
+    }
+
+    pub fn journal(&self) -> &Journal
+        ensures items { result.now.items ≡ self.now.journal }
+        ensures within { turns self.now.journal ≤ self.now.turns }
+        ensures runs { IsRun (B.means self.now.code) self.now.input self.now.journal }
+        ensures settled { IsSettledRun (B.means self.now.code) self.now.input self.now.journal }
+    {
+        &self.journal
+    }
+
+    /// The journal, and the processes that were stopped by a fault with their faults, by number.
+    pub fn into_journal(self) -> (Journal, Faults)
+        ensures journal { result.0.items ≡ self.journal }
+        ensures runs { IsRun (B.means self.code) self.input self.journal }
+        ensures settled { IsSettledRun (B.means self.code) self.input self.journal }
+        ensures faults { result.1.items ≡ faults_from 0 (state_after (B.means self.code) self.input self.journal).processes }
+    {
+        let mut faults = self.faults;
+        list_faults(&self.kept.seats, &mut faults);
+        (self.journal, faults)
+    }
+}
+
+fn word(request: &Request) -> Word
+    ensures { result ≡ word_of request.now }
+{
+    match request {
+        Request::Pause => Word::Pause,
+        Request::Create { .. } => Word::Create,
+        Request::Call { .. } => Word::Call,
+        Request::TimedCall { .. } => Word::TimedCall,
+        Request::Send { .. } => Word::Send,
+        Request::Select { .. } => Word::Select,
+        Request::Delay { .. } => Word::Delay,
+        Request::Reply { .. } => Word::Reply,
+        Request::Print { .. } => Word::Print,
+        Request::Get => Word::Get,
+        Request::Done => Word::Done,
+        Request::Fault { .. } => Word::Fault,
+    }
+}

@@ -1,0 +1,160 @@
+ghost use Rattle.std.specs.Prelude.{◌≡◌, ◌≢◌, MatchOption, ◌+◌, ◌<◌, ◌≤◌, ◌++◌, ℕ, ℤ, List, All, false, length, map, pos, replicate, set};
+ghost use Rattle.cc_kernel.specs.Held.{Answering, Making, IsEnoughFor, IsReadyFor, IsServed, prepared_for};
+ghost use Rattle.cc_kernel.specs.Kept.{IsLocated, IsState, parts};
+ghost use Rattle.cc_kernel.specs.Seats.{SameOuts, is_out};
+ghost use Rattle.cc_kernel.specs.declared.need.Need.TheVariants as variant;
+ghost use Rattle.cc_base.specs.Grants.{value_cells};
+ghost use Rattle.cc_rules.specs.Effects.{effect, replied};
+ghost use Rattle.cc_rules.specs.Runs.{bytes_of};
+ghost use Rattle.cc_rules.specs.State.{State};
+
+use crate::asks;
+use crate::kept::Kept;
+use crate::need::Need;
+use cc_base::{Behave, Bytes, Cells, Grant, Pid, Request};
+use cc_rules::ProcessStanding;
+use std::alloc::Global;
+
+// The process goes on, and the innermost call that it serves, where it serves one, is answered with as much of the value
+// as its transaction gives.
+fn reply<B: Behave>(
+    code: &B,
+    kept: &mut Kept<B::Proc>,
+    pid: Pid,
+    process: B::Proc,
+    mut value: Cells,
+)
+    requires within { pid.0 < length kept.old.seats.items }
+    requires known { All (λ call. call.trans < length (B.means code.now).shapes) kept.old.served.items }
+    ensures state { (s : State) (asked : List ℤ) (zeros : ℕ) → value ≡ asked ++ replicate zeros (pos 0) → All (λ call. value_cells (B.means code.now) call.trans ≤ zeros) kept.old.served.items → IsState (B.at code.now) s (parts kept.old) → IsLocated (B.at code.now) s pid.0 process → IsState (B.at code.now) (replied (B.means code.now) s pid.0 asked) (parts kept.new) }
+    ensures input { kept.new.input ≡ kept.old.input }
+    ensures drawn { kept.new.drawn ≡ kept.old.drawn }
+    ensures outs { map is_out kept.new.seats.items ≡ set (map is_out kept.old.seats.items) pid.0 false }
+    ensures room { kept.old.served.spare ≤ kept.new.served.spare }
+    ensures calls { kept.new.pending.items ≡ kept.old.pending.items }
+{
+    kept.seats.put_ready(pid.0 as usize, process, Grant::Go);
+    let Some(call) = kept.served.take_innermost(pid) else {
+        return;
+    };
+    value.cut(code.shape(call.trans).value as usize);
+    kept.seats.answer(call, Grant::Value(value));
+}
+
+/// What the process asks is done, with what was made for it. Gives the bytes that are printed.
+pub(crate) fn serve<B: Behave>(
+    code: &B,
+    alloc: Global,
+    kept: &mut Kept<B::Proc>,
+    pid: Pid,
+    process: B::Proc,
+    request: Request,
+    need: Need<B::Proc>,
+) -> Bytes
+    requires within { pid.0 < length kept.old.seats.items }
+    requires calls { 0 < kept.old.pending.spare }
+    requires seats { 0 < kept.old.seats.spare }
+    requires few { kept.old.drawn < 4294967295 }
+    requires served { IsServed request }
+    requires enough { IsEnoughFor (prepared_for need) request }
+    requires ready { (events : ℕ) × IsReadyFor (B.means code.now) (B.at code.now) kept.old events need }
+    requires known { All (λ call. call.trans < length (B.means code.now).shapes) kept.old.served.items }
+    ensures state { (s : State) → IsState (B.at code.now) s (parts kept.old) → IsLocated (B.at code.now) s pid.0 process → IsState (B.at code.now) (effect (B.means code.now) s pid request) (parts kept.new) }
+    ensures input { kept.new.input ≡ kept.old.input }
+    ensures drawn { kept.new.drawn ≤ kept.old.drawn + 1 }
+    ensures outs { SameOuts (map is_out kept.new.seats.items) (set (map is_out kept.old.seats.items) pid.0 false) }
+    ensures room { kept.old.served.spare ≤ kept.new.served.spare }
+    ensures calls { length kept.new.pending.items ≤ length kept.old.pending.items + 1 }
+    ensures bytes { result ≡ bytes_of request }
+{
+    match request {
+        Request::Print { bytes } => {
+            asks::go_on(kept, pid, process, Grant::Go);
+            bytes
+        }
+        Request::Pause => {
+            asks::go_on(kept, pid, process, Grant::Go);
+            Bytes::new(alloc)
+        }
+        Request::Create {
+            kind: _kind,
+            args: _args,
+        } => {
+            let Some(new) = started(need) else {
+                unreachable!()
+            };
+            asks::create(kept, pid, process, new);
+            Bytes::new(alloc)
+        }
+        Request::Call {
+            target,
+            trans,
+            args,
+        } => {
+            asks::call(kept, pid, process, target, trans, args);
+            Bytes::new(alloc)
+        }
+        Request::Select { alts } => {
+            asks::select(kept, pid, process, alts);
+            Bytes::new(alloc)
+        }
+        Request::Reply { value: _value } => {
+            let Some(value) = answer(need) else {
+                unreachable!()
+            };
+            reply(code, kept, pid, process, value);
+            Bytes::new(alloc)
+        }
+        Request::Get => {
+            asks::get(kept, pid, process);
+            Bytes::new(alloc)
+        }
+        Request::Done => {
+            asks::leave(kept, pid, ProcessStanding::Ended);
+            Bytes::new(alloc)
+        }
+        Request::Fault { kind } => {
+            asks::leave(kept, pid, ProcessStanding::Faulted { kind });
+            Bytes::new(alloc)
+        }
+        Request::TimedCall {
+            target: _target,
+            trans: _trans,
+            args: _args,
+            wait: _wait,
+        } => unreachable!(),
+        Request::Send {
+            target: _target,
+            trans: _trans,
+            args: _args,
+        } => unreachable!(),
+        Request::Delay { wait: _wait } => unreachable!(),
+    }
+}
+
+// The process that was started for a Create.
+fn started<P: Drop>(need: Need<P>) -> Option<P>
+    ensures { MatchOption result ((kind : ℕ) (args : List ℤ) → prepared_for need ≢ Making kind args) (λ new. (kind : ℕ) × (args : List ℤ) × (need ≡ variant.Making kind args new)) }
+{
+    match need {
+        Need::Making {
+            kind: _kind,
+            args: _args,
+            process,
+        } => Some(process),
+        _other => None,
+    }
+}
+
+// The value that was made for a Reply.
+fn answer<P: Drop>(need: Need<P>) -> Option<Cells>
+    ensures { MatchOption result ((value : List ℤ) (zeros : ℕ) → prepared_for need ≢ Answering value zeros) (λ value. (zeros : ℕ) × (need ≡ variant.Answering value zeros)) }
+{
+    match need {
+        Need::Answering {
+            value,
+            zeros: _zeros,
+        } => Some(value),
+        _other => None,
+    }
+}
