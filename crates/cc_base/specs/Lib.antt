@@ -5,3 +5,4 @@ pub mod Meaning
 pub mod Outcome
 pub mod Printing
 pub mod Requests
+pub mod Served

@@ -10,7 +10,8 @@ use Rattle.cc_base.specs.declared.alternatives.Alt.TheVariants as alt
 use Rattle.cc_base.specs.declared.request.Grant.{Grant}
 use Rattle.cc_kernel.proofs.Seated.{plain-at, same-standing}
 use Rattle.cc_kernel.specs.Choice.{is_takable, some_takable, takes}
-use Rattle.cc_kernel.specs.Kept.{AllAwaited, IsAccept, IsAwaited, IsPlain, IsState, OnlyAccepts, Parts}
+use Rattle.cc_base.specs.Served.{IsAccept}
+use Rattle.cc_kernel.specs.Kept.{AllAwaited, IsAwaited, IsPlain, IsState, OnlyAccepts, Parts}
 use Rattle.cc_kernel.specs.Seats.{seat_at}
 use Rattle.cc_base.specs.Alternatives.{numbered}
 use Rattle.cc_rules.specs.Choice.{accepts, alternative_deadline, call_deadline, call_numbered, expires, expires_at, expiring_numbers, has_eligible, has_immediate, is_acceptable, is_chosen, is_first_due, is_immediate, is_terminate, may_withdraw, rank, some_process, takes_at_once}

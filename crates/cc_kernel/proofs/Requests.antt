@@ -13,7 +13,8 @@ use Rattle.cc_base.specs.declared.request.Request.TheVariants.{Call, Create}
 use Rattle.cc_kernel.proofs.Outs.{outs-gone}
 use Rattle.cc_kernel.proofs.Seated.{Seated-length, same-standing}
 use Rattle.cc_kernel.proofs.Simulates.{map-append, state-call, state-go, state-leave, state-make, state-wait}
-use Rattle.cc_kernel.specs.Held.{Answering, IsEnoughFor, IsOneAccept, IsReadyFor, Making, prepared_for}
+use Rattle.cc_base.specs.Served.{IsOneAccept}
+use Rattle.cc_kernel.specs.Held.{Answering, IsEnoughFor, IsReadyFor, Making, prepared_for}
 use Rattle.cc_kernel.specs.Kept.{IsLocated, IsState, OnlyAccepts, Parts, called_parts, left_parts, made_parts, waited, went_on}
 use Rattle.cc_kernel.specs.Seats.{SameOuts, is_out, is_out_in, is_served_by, seat_at, served_call, with_left, with_ready, with_waiting}
 use Rattle.cc_kernel.specs.declared.kept.Kept.{Kept}

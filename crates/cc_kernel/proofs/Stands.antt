@@ -7,12 +7,15 @@ use Rattle.cc_base.specs.Meaning.{Meaning}
 use Rattle.cc_base.specs.declared.request.Grant.{Grant}
 use Rattle.cc_kernel.proofs.Plain.{no-deadlines, not-unsettled}
 use Rattle.cc_kernel.proofs.Seated.{plain-at, same-standing}
+use Rattle.cc_kernel.specs.Held.{SomeRunning}
 use Rattle.cc_kernel.specs.Seats.{seat_at}
 use Rattle.cc_kernel.specs.Kept.{IsState, Parts, Seated}
 use Rattle.cc_kernel.specs.Standing.{deadlines, least, standing_in}
 use Rattle.cc_kernel.specs.declared.seat.Seat.{Seat}
 use Rattle.cc_rules.specs.Choice.{is_acceptable}
 use Rattle.cc_rules.specs.Ends.{has_deadline, has_faulted, has_running, is_complete, is_unsettled}
+use Rattle.cc_rules.specs.Runs.{state_after}
+use Rattle.cc_rules.specs.declared.event.Event.{Event}
 use Rattle.cc_rules.specs.State.{Process, State, is_faulted, is_over, is_running, process_at}
 use Rattle.cc_rules.specs.declared.event.Standing.{Standing}
 use Rattle.cc_rules.specs.declared.event.Standing.TheVariants.{Going, Idle, Ended, Stuck, Spent}
@@ -67,6 +70,30 @@ module _ {P : Type 0} (located : P → ℕ → List ℤ → List Grant → Type 
   any-same f (q ∷ qs) (seat ∷ seats) h = rw (h.0.standing, any-same f qs seats h.1) refl
   any-same f [] (seat ∷ seats) h = absurd h
   any-same f (q ∷ qs) [] h = absurd h
+
+  running-at : (qs : List Process) (seats : List (Seat P)) → Seated located qs seats → list_any (λ seat. is_running seat.standing) seats ≡ true → (p : ℕ) × (is_running (process_at qs p).standing ≡ true)
+  running-at [] [] h some = cc
+  running-at [] (seat ∷ seats) h some = absurd h
+  running-at (q ∷ qs) [] h some = absurd h
+  running-at (q ∷ qs) (seat ∷ seats) h some = first (λ rest. running-at qs seats h.1 rest) (is_running q.standing) refl
+    where
+      first :
+          (list_any (λ s. is_running s.standing) seats ≡ true → (p : ℕ) × (is_running (process_at qs p).standing ≡ true))
+          → (b : Bool)
+          → is_running q.standing ≡ b
+          → (p : ℕ) × (is_running (process_at (q ∷ qs) p).standing ≡ true)
+      first more true e = (0, e)
+      first more false e =
+          let found = more (sym (ap (λ b. b || list_any (λ s. is_running s.standing) seats) (ap is_running h.0.standing ∙ e)) ∙ some) in
+          (suc found.0, found.1)
+
+  -- where a seat's process is running, a process is running
+  pub some-running :
+      (m : Meaning) (input : List ℕ) (events : List Event) (seats : List (Seat P))
+      → Seated located (state_after m input events).processes seats
+      → list_any (λ seat. is_running seat.standing) seats ≡ true
+      → SomeRunning m input events
+  some-running m input events seats k some = running-at (state_after m input events).processes seats k some
 
   -- how it stands, by the seats
   pub stands-as :

@@ -1,12 +1,11 @@
 -- What a kernel is to its callers.
 use Rattle.std.specs.Prelude.{◌≡◌, ℕ, ◌+◌, ◌≤◌, ◌<◌, ℤ, pos, Bool, true, false, List, [], ◌∷◌, ◌++◌, length, replicate, All}
 use Rattle.cc_base.specs.Meaning.{Meaning}
-use Rattle.cc_base.specs.declared.alternatives.Alt.{Alt}
 use Rattle.cc_base.specs.declared.names.Pid.{Pid}
 use Rattle.cc_base.specs.declared.request.Grant.{Grant}
 use Rattle.cc_base.specs.declared.request.Request.{Request}
 use Rattle.cc_base.specs.declared.request.Request.TheVariants.{Pause, Create, Call, TimedCall, Send, Select, Delay, Reply, Print, Get, Done, Fault}
-use Rattle.cc_kernel.specs.Kept.{IsAccept, IsState, parts}
+use Rattle.cc_kernel.specs.Kept.{IsState, parts}
 use Rattle.cc_kernel.specs.Seats.{is_out_in}
 use Rattle.cc_kernel.specs.declared.kept.Kept.{Kept}
 use Rattle.cc_kernel.specs.declared.need.Need.{Need}
@@ -53,27 +52,6 @@ prepared_for need.Step = Step
 prepared_for (need.Making kind args process) = Making kind args
 prepared_for (need.Answering value zeros) = Answering value zeros
 prepared_for need.Moment = Moment
-
--- the only alternative accepts a transaction
-abbrev pub IsOneAccept : List (ℕ × Alt) → Type 0
-IsOneAccept [] = ⊥
-IsOneAccept (a ∷ []) = IsAccept a.1
-IsOneAccept (a ∷ b ∷ alts) = ⊥
-
--- the kernel serves this request
-abbrev pub IsServed : Request → Type 0
-IsServed Pause = Unit {0}
-IsServed (Create kind args) = Unit {0}
-IsServed (Call target trans args) = Unit {0}
-IsServed (TimedCall target trans args wait) = ⊥
-IsServed (Send target trans args) = ⊥
-IsServed (Select alts) = IsOneAccept alts
-IsServed (Delay wait) = ⊥
-IsServed (Reply value) = Unit {0}
-IsServed (Print bytes) = Unit {0}
-IsServed Get = Unit {0}
-IsServed Done = Unit {0}
-IsServed (Fault kind) = Unit {0}
 
 -- what is prepared is enough for this request
 abbrev pub IsEnoughFor : Prepared → Request → Type 0
@@ -142,6 +120,10 @@ pub record IsReadyWith {P : Type 0} (m : Meaning) (located : P → ℕ → List 
 abbrev pub AllOut : Meaning → List ℕ → List Event → List Bool → Type 0
 AllOut m input events outs =
     (p : ℕ) → is_running (process_at (state_after m input events).processes p).standing ≡ true → is_out_in outs p ≡ true
+
+-- some process is running
+abbrev pub SomeRunning : Meaning → List ℕ → List Event → Type 0
+SomeRunning m input events = (p : ℕ) × (is_running (process_at (state_after m input events).processes p).standing ≡ true)
 
 -- the run goes no further: it has ended, is stuck, or has no turns left
 abbrev pub IsOver : Standing → Type 0

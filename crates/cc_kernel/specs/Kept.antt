@@ -1,8 +1,8 @@
 -- What the kernel keeps of a state, and when it is the state that the machine is in.
 use Rattle.std.specs.Prelude.{◌≡◌, ℕ, ◌+◌, ◌≤◌, ℤ, true, false, not, List, [], ◌∷◌, ◌++◌, length, drop, get_or, map, nat_lt, remove, set, slice_get, if◌then◌else◌}
 use Rattle.std.specs.List.{filter}
+use Rattle.cc_base.specs.Served.{IsAccept}
 use Rattle.cc_base.specs.declared.alternatives.Alt.{Alt}
-use Rattle.cc_base.specs.declared.alternatives.Alt.TheVariants.{Accept, After, Now, Terminate}
 use Rattle.cc_base.specs.declared.names.Pid.{Pid}
 use Rattle.cc_base.specs.declared.request.Grant.{Grant}
 use Rattle.cc_base.specs.declared.request.Grant.TheVariants.{Go, Made, Took, Byte}
@@ -99,13 +99,6 @@ module _ {P : Type 0} where
         pending = remove x.pending index;
         served = x.served ++ served_call call ∷ [];
       }
-
--- the alternative accepts a transaction
-abbrev pub IsAccept : Alt → Type 0
-IsAccept (Accept trans site env) = Unit {0}
-IsAccept (After wait) = ⊥
-IsAccept Now = ⊥
-IsAccept Terminate = ⊥
 
 abbrev pub OnlyAccepts : List (ℕ × Alt) → Type 0
 OnlyAccepts [] = Unit {0}

@@ -1,11 +1,12 @@
-ghost use Rattle.std.specs.Prelude.{◌≡◌, ◌≤◌, ◌++◌, ◌⊎◌, [], ◌∷◌, false, true, IfOk, IfNone, IfSome, OnErr, OnOk, Some, set, slice_get};
+ghost use Rattle.std.specs.Prelude.{◌≡◌, ◌≢◌, ℕ, ◌≤◌, ◌++◌, ◌⊎◌, [], ◌∷◌, false, true, IfOk, IfNone, IfSome, OnErr, OnOk, Some, set, slice_get};
 ghost use Rattle.cc_kernel.specs.Faults.{faults_from};
-ghost use Rattle.cc_kernel.specs.Held.{AllOut, AsksNow, IsOutWith, IsOver, IsPreparedFor, IsReadyWith, IsServed, Moment, Nothing, StepsOn};
+ghost use Rattle.cc_base.specs.Served.{IsServed};
+ghost use Rattle.cc_kernel.specs.Held.{AllOut, AsksNow, IsOutWith, IsOver, IsPreparedFor, IsReadyWith, Moment, Nothing, SomeRunning, StepsOn};
 ghost use Rattle.cc_kernel.specs.Seats.{SameOuts, is_out_in};
 ghost use Rattle.cc_kernel.specs.Standing.{standing_of};
 ghost use Rattle.cc_rules.specs.Events.{request_at, word_of};
 ghost use Rattle.cc_rules.specs.Runs.{IsRun, IsSettledRun, bytes_of, state_after, turns};
-ghost use Rattle.cc_rules.specs.declared.event.Standing.TheVariants.{Going};
+ghost use Rattle.cc_rules.specs.declared.event.Standing.TheVariants.{Going, Idle};
 
 use crate::asks::MOST_PROCESSES;
 use crate::calls::{Pending, Served};
@@ -165,7 +166,9 @@ impl<B: Behave> Kernel<B> {
 
     /// How the run stands.
     pub fn state(&self) -> Standing
-        ensures { result ≡ standing_of (B.means self.now.code) self.now.input self.now.journal self.now.turns }
+        ensures standing { result ≡ standing_of (B.means self.now.code) self.now.input self.now.journal self.now.turns }
+        ensures going { result ≡ Going → SomeRunning (B.means self.now.code) self.now.input self.now.journal }
+        ensures awake { (until : ℕ) → result ≢ Idle until }
     {
         if self.kept.seats.all_over() {
             return Standing::Ended {

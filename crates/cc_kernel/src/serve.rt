@@ -1,5 +1,6 @@
 ghost use Rattle.std.specs.Prelude.{◌≡◌, ◌≢◌, MatchOption, ◌+◌, ◌<◌, ◌≤◌, ◌++◌, ℕ, ℤ, List, All, false, length, map, pos, replicate, set};
-ghost use Rattle.cc_kernel.specs.Held.{Answering, Making, IsEnoughFor, IsReadyFor, IsServed, prepared_for};
+ghost use Rattle.cc_base.specs.Served.{IsServed};
+ghost use Rattle.cc_kernel.specs.Held.{Answering, Making, IsEnoughFor, IsReadyFor, prepared_for};
 ghost use Rattle.cc_kernel.specs.Kept.{IsLocated, IsState, parts};
 ghost use Rattle.cc_kernel.specs.Seats.{SameOuts, is_out};
 ghost use Rattle.cc_kernel.specs.declared.need.Need.TheVariants as variant;

@@ -1,0 +1,45 @@
+-- The requests that are served so far.
+use Rattle.std.specs.Prelude.{ℕ, ℤ, List, [], ◌∷◌, length}
+use Rattle.cc_base.specs.Grants.{HasKind, IsProper}
+use Rattle.cc_base.specs.Meaning.{Meaning}
+use Rattle.cc_base.specs.declared.alternatives.Alt.{Alt}
+use Rattle.cc_base.specs.declared.alternatives.Alt.TheVariants.{Accept, After, Now, Terminate}
+use Rattle.cc_base.specs.declared.request.Grant.{Grant}
+use Rattle.cc_base.specs.declared.request.Request.{Request}
+use Rattle.cc_base.specs.declared.request.Request.TheVariants.{Pause, Create, Call, TimedCall, Send, Select, Delay, Reply, Print, Get, Done, Fault}
+
+-- the alternative accepts a transaction
+abbrev pub IsAccept : Alt → Type 0
+IsAccept (Accept trans site env) = Unit {0}
+IsAccept (After wait) = ⊥
+IsAccept Now = ⊥
+IsAccept Terminate = ⊥
+
+-- the only alternative accepts a transaction
+abbrev pub IsOneAccept : List (ℕ × Alt) → Type 0
+IsOneAccept [] = ⊥
+IsOneAccept (a ∷ []) = IsAccept a.1
+IsOneAccept (a ∷ b ∷ alts) = ⊥
+
+-- the request has no deadline and no choice, and whoever calls waits for the answer
+abbrev pub IsServed : Request → Type 0
+IsServed Pause = Unit {0}
+IsServed (Create kind args) = Unit {0}
+IsServed (Call target trans args) = Unit {0}
+IsServed (TimedCall target trans args wait) = ⊥
+IsServed (Send target trans args) = ⊥
+IsServed (Select alts) = IsOneAccept alts
+IsServed (Delay wait) = ⊥
+IsServed (Reply value) = Unit {0}
+IsServed (Print bytes) = Unit {0}
+IsServed Get = Unit {0}
+IsServed Done = Unit {0}
+IsServed (Fault kind) = Unit {0}
+
+-- what a process of a kind that exists asks after proper grants is such a request
+abbrev pub AsksServed : Meaning → Type 0
+AsksServed m =
+    (kind : ℕ) (args : List ℤ) (grants : List Grant)
+    → HasKind m kind (length args)
+    → IsProper m kind args grants
+    → IsServed (m.act kind args grants)
