@@ -65,6 +65,8 @@ module _ (m : Meaning) (wf : WellFormed m) (input : List ℕ) (events : List Eve
       let own = own-sound m (state_after m input events) sound p ready.0 in
       record {
         running = ready.0;
+        kind = own.kind_exists;
+        proper = own.proper;
         front = ready.1.0;
         grants = ready.1.1;
         there = ready.1.2;

@@ -7,7 +7,7 @@ use Rattle.std.specs.Option.{option_map_or}
 use Rattle.cc_base.specs.declared.names.Pid.{Pid}
 use Rattle.cc_base.specs.declared.request.Grant.{Grant}
 use Rattle.cc_base.specs.declared.request.Grant.TheVariants.{Gone}
-use Rattle.cc_kernel.specs.Seats.{answered_seats, gone_seats, is_out, is_out_in, is_out_place, seat_at, vacant, woken, woken_place}
+use Rattle.cc_kernel.specs.Seats.{answered_seats, gone_seats, is_out, is_out_in, is_out_place, seat_at, vacant, woken, woken_place, with_out}
 use Rattle.cc_kernel.specs.declared.seat.Place.{Place}
 use Rattle.cc_kernel.specs.declared.seat.Place.TheVariants.{Ready, Out, Waits, Left}
 use Rattle.cc_kernel.specs.declared.seat.Seat.{Seat}
@@ -31,6 +31,12 @@ module _ {P : Type 0} where
   in-at [] i b lt e = absurd (omega arith)
   in-at (seat ∷ seats) zero b lt e = e
   in-at (seat ∷ seats) (suc i) b lt e = in-at seats i b (omega arith) e
+
+  -- a process that is taken out is out
+  pub taken-out : (seats : List (Seat P)) (i : ℕ) (seat : Seat P) → i < length seats → is_out_in (map is_out (set seats i (with_out seat))) i ≡ true
+  taken-out [] i seat lt = absurd (omega arith)
+  taken-out (x ∷ seats) zero seat lt = refl
+  taken-out (x ∷ seats) (suc i) seat lt = taken-out seats i seat (omega arith)
 
   pub gone_seats-append :
       (seats : List (Seat P)) (first more : List ServedCall)

@@ -12,7 +12,7 @@ use Rattle.cc_kernel.specs.declared.need.Need.{Need}
 use Rattle.cc_kernel.specs.declared.need.Need.TheVariants as need
 use Rattle.std.specs.List.{list_any}
 use Rattle.cc_rules.specs.Choice.{is_acceptable}
-use Rattle.cc_base.specs.Grants.{value_cells, IsNext}
+use Rattle.cc_base.specs.Grants.{value_cells, HasKind, IsNext, IsProper}
 use Rattle.cc_rules.specs.Effects.{most_processes}
 use Rattle.cc_rules.specs.Lists.{FaultList}
 use Rattle.cc_rules.specs.Events.{request_at, word_of}
@@ -108,9 +108,12 @@ IsOutWith m located input events outs p process =
     (is_out_in outs p ≡ true)
     × located process (process_at (state_after m input events).processes p).kind (process_at (state_after m input events).processes p).args (process_at (state_after m input events).processes p).grants
 
--- the process is running and is still to be given this grant, which is next after those that it was given
+-- the process is running, its kind exists and its grants are proper; the last of them is this grant, which it is still to
+-- be given after the others
 pub record IsReadyWith {P : Type 0} (m : Meaning) (located : P → ℕ → List ℤ → List Grant → Type 0) (input : List ℕ) (events : List Event) (p : ℕ) (process : P) (grant : Grant) : Type 0 where
   pub running : is_running (process_at (state_after m input events).processes p).standing ≡ true
+  pub kind : HasKind m (process_at (state_after m input events).processes p).kind (length (process_at (state_after m input events).processes p).args)
+  pub proper : IsProper m (process_at (state_after m input events).processes p).kind (process_at (state_after m input events).processes p).args (process_at (state_after m input events).processes p).grants
   pub front : List Grant
   pub grants : (process_at (state_after m input events).processes p).grants ≡ front ++ grant ∷ []
   pub there : located process (process_at (state_after m input events).processes p).kind (process_at (state_after m input events).processes p).args front

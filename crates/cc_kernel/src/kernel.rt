@@ -120,6 +120,7 @@ impl<B: Behave> Kernel<B> {
         ensures input { self.new.input ≡ self.old.input }
         ensures turns { self.new.turns ≡ self.old.turns }
         ensures steps { StepsOn self.old.journal self.new.journal pid request }
+        ensures within { turns self.new.journal ≤ self.new.turns }
         ensures runs { IsRun (B.means self.new.code) self.new.input self.new.journal }
         ensures settled { IsSettledRun (B.means self.new.code) self.new.input self.new.journal }
         ensures outs { SameOuts self.new.outs (set self.old.outs pid.0 false) }
@@ -151,6 +152,7 @@ impl<B: Behave> Kernel<B> {
         ensures ready { IfSome result (λ r. IsReadyWith (B.means self.old.code) (B.at self.old.code) self.old.input self.old.journal r.0.0 r.1 r.2) }
         ensures was_in { IfSome result (λ r. is_out_in self.old.outs r.0.0 ≡ false) }
         ensures out { IfSome result (λ r. self.new ≡ record self.old { outs = set self.old.outs r.0.0 true }) }
+        ensures is_out { IfSome result (λ r. is_out_in self.new.outs r.0.0 ≡ true) }
     {
         if self.spent == self.turns {
             return None;
@@ -196,6 +198,7 @@ impl<B: Behave> Kernel<B> {
     /// The journal, and the processes that were stopped by a fault with their faults, by number.
     pub fn into_journal(self) -> (Journal, Faults)
         ensures journal { result.0.items ≡ self.journal }
+        ensures within { turns result.0.items ≤ self.turns }
         ensures runs { IsRun (B.means self.code) self.input self.journal }
         ensures settled { IsSettledRun (B.means self.code) self.input self.journal }
         ensures faults { result.1.items ≡ faults_from 0 (state_after (B.means self.code) self.input self.journal).processes }

@@ -1,4 +1,4 @@
-use Rattle.std.proofs.Common.{◌<◌, length, ◌∙◌}
+use Rattle.std.proofs.Common.{arith, ◌<◌, length, ◌∙◌}
 use Rattle.cc_kernel.proofs.Keeping.{all-served, kept-commit}
 use Rattle.cc_kernel.proofs.Known.{known-served}
 use Rattle.cc_kernel.proofs.Outs.{out-at}
@@ -59,3 +59,8 @@ returns-clause-runs g c = (invariant_of-self g c).runs
 
 pub returns-clause-settled : goal.returns-clause-settled
 returns-clause-settled g c = (invariant_of-self g c).settled
+
+pub returns-clause-within : goal.returns-clause-within
+returns-clause-within g c =
+    let kept = invariant_of-self g c in
+    omega (arith, kept.spent_turns, kept.within)

@@ -1,0 +1,19 @@
+use Rattle.std.proofs.Common.{◌∙◌}
+use Rattle.cc_pool.proofs.Begun.{empty-run, kernel-run}
+use Rattle.cc_pool.proofs.driving.drive.Goals as goal
+
+pub returns-in_default-clause-run : goal.returns-in_default-clause-run
+returns-in_default-clause-run g c =
+    let m = g.B.Behave.means c.args.code.now.value in
+    rw (c.unbegun.ensures.journal, c.unbegun.ensures.faults)
+    (empty-run m c.args.input c.args.turns c.unbegun.result.standing (c.unbegun.ensures.standing m c.args.input))
+
+pub returns-clause-run : goal.returns-clause-run
+returns-clause-run g c =
+    let told = c.into_journal-journal.ensures in
+    kernel-run g.B.Behave.means c.run_on-stop.new.kernel c.args.code.now.value c.args.input c.args.turns
+    c.into_journal-journal.result.0.items c.into_journal-journal.result.1.items c.state-standing.result
+    (c.run_on-stop.ensures.code ∙ c.in-Ok.ensures.code)
+    (c.run_on-stop.ensures.input ∙ c.in-Ok.ensures.input)
+    (c.run_on-stop.ensures.turns ∙ c.in-Ok.ensures.turns)
+    told.journal told.within told.runs told.settled c.state-standing.ensures.standing told.faults

@@ -1,0 +1,57 @@
+-- What a run leaves that was driven as far as it went.
+use Rattle.std.specs.Prelude.{◌≡◌, ◌≢◌, ◌≤◌, ℕ, Bool, false, List, ◌∷◌, ◌++◌, Option}
+use Rattle.cc_base.specs.Meaning.{Meaning}
+use Rattle.cc_base.specs.declared.names.FaultKind.{FaultKind}
+use Rattle.cc_base.specs.declared.names.Pid.{Pid}
+use Rattle.cc_kernel.specs.Faults.{faults_from}
+use Rattle.cc_kernel.specs.Held.{IsOver}
+use Rattle.cc_kernel.specs.Seats.{is_out_in}
+use Rattle.cc_kernel.specs.Standing.{standing_of}
+use Rattle.cc_rules.specs.Events.{request_at, word_of}
+use Rattle.cc_rules.specs.Runs.{IsRun, IsSettledRun, bytes_of, printed, state_after, turns}
+use Rattle.cc_rules.specs.Stops.{StopsInPrint}
+use Rattle.cc_rules.specs.declared.event.Event.{Event}
+use Rattle.cc_rules.specs.declared.event.Event.TheVariants.{Ask}
+use Rattle.cc_rules.specs.declared.event.Standing.{Standing}
+use Rattle.cc_world.specs.Told.{GrewBy, GrewWithin}
+
+-- the journal is a settled run of at most the allowed turns, the standing is that of the run, and the faults are those of
+-- the processes that it stopped by one, by number
+pub record IsRunOf (m : Meaning) (input : List ℕ) (allowed : ℕ) (journal : List Event) (faults : List (Pid × FaultKind)) (standing : Standing) : Type 0 where
+  pub legal : IsRun m input journal
+  pub settled : IsSettledRun m input journal
+  pub within : turns journal ≤ allowed
+  pub stands : standing ≡ standing_of m input journal allowed
+  pub lists : faults ≡ faults_from 0 (state_after m input journal).processes
+
+-- the run went as far as it goes, and the sink grew by exactly what it prints
+pub record GoesToItsEnd (m : Meaning) (input : List ℕ) (journal : List Event) (standing : Standing) (held held_after : Option (List ℕ)) : Type 0 where
+  pub over : IsOver standing
+  pub prints : GrewBy held held_after (printed m input journal)
+
+-- the last turn of the run is the Ask of a Print; the sink grew by what all Prints before it print and by a proper first
+-- part of its own bytes
+pub record StopsAtTheSink (m : Meaning) (input : List ℕ) (journal : List Event) (held held_after : Option (List ℕ)) : Type 0 where
+  pub part : List ℕ
+  pub stops : StopsInPrint m input journal part
+  pub prints : GrewBy held held_after part
+
+-- the sink grew by a first part of what the run prints, or by all of it
+abbrev pub StopsForMemory : Meaning → List ℕ → List Event → Option (List ℕ) → Option (List ℕ) → Type 0
+StopsForMemory m input journal held held_after = GrewWithin held held_after (printed m input journal)
+
+-- no process is out
+abbrev pub NoneOut : List Bool → Type 0
+NoneOut outs = (p : ℕ) → is_out_in outs p ≡ false
+
+-- the run went on with the request of one process, which prints these bytes, and with what settles the machine
+pub record GoesOn (m : Meaning) (input : List ℕ) (before journal : List Event) (bytes : List ℕ) : Type 0 where
+  pub pid : Pid
+  pub settling : List Event
+  pub events : journal ≡ before ++ Ask pid (word_of (request_at m (state_after m input before) pid)) ∷ settling
+  pub quiet : turns settling ≡ 0
+  pub prints : bytes ≡ bytes_of (request_at m (state_after m input before) pid)
+
+-- no other process is out
+abbrev pub OnlyOut : List Bool → ℕ → Type 0
+OnlyOut outs p = (q : ℕ) → q ≢ p → is_out_in outs q ≡ false
