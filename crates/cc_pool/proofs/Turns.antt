@@ -3,10 +3,11 @@ use Rattle.std.proofs.Common.{◌≡◌, ℕ, ◌≤◌, ◌<◌, ◌+◌, refl,
 use Rattle.std.proofs.Math.Seq.{take-append-add}
 use Rattle.std.proofs.lemmas.List.{append-nil, length-append, take_all}
 use Rattle.std.proofs.lemmas.List.Sums.{sum_by-cons}
+use Rattle.std.specs.List.{AllPass}
 use Rattle.cc_base.specs.Meaning.{Meaning}
 use Rattle.cc_base.specs.declared.request.Request.{Request}
 use Rattle.cc_base.specs.declared.request.Request.TheVariants as request
-use Rattle.cc_pool.specs.Driven.{GoesOn, NoneOut, StopsAtTheSink, StopsForMemory}
+use Rattle.cc_pool.specs.Driven.{GoesOn, NoneOut, StopsAtTheSink, StopsForMemory, is_untimed}
 use Rattle.cc_rules.proofs.GoOn.{printed-append, turns-append}
 use Rattle.cc_rules.specs.Events.{next, request_at, word_of}
 use Rattle.cc_rules.specs.Runs.{bytes_of, is_turn, printed, printed_from, state_after, turns}
@@ -17,17 +18,19 @@ use Rattle.cc_rules.specs.declared.event.Word.TheVariants as word
 use Rattle.cc_world.proofs.Grown.{grown_twice}
 use Rattle.cc_world.specs.Told.{GrewBy, GrewByPart, with_bytes}
 
--- at most the allowed turns were taken, no process is out, and the sink grew by exactly what was printed
+-- at most the allowed turns were taken, none of them a Time, no process is out, and the sink grew by exactly what was
+-- printed
 pub record OnItsWay (m : Meaning) (input : List ℕ) (allowed : ℕ) (journal : List Event) (outs : List Bool) (held held_now : Option (List ℕ)) (faults faults_now : ℕ) : Type 0 where
   pub within : turns journal ≤ allowed
+  pub untimed : AllPass is_untimed journal
   pub inside : NoneOut outs
   pub grew : GrewBy held held_now (printed m input journal)
   pub later : faults ≤ faults_now
 
-turns-cons : (e : Event) (events : List Event) → turns (e ∷ events) ≡ cond (is_turn e) 1 0 + turns events
+pub turns-cons : (e : Event) (events : List Event) → turns (e ∷ events) ≡ cond (is_turn e) 1 0 + turns events
 turns-cons e events = sum_by-cons (λ x. cond (is_turn x) 1 0) e events
 
-no-turn : (e : Event) (events : List Event) → is_turn e ≡ true → turns (e ∷ events) ≡ 0 → ⊥
+pub no-turn : (e : Event) (events : List Event) → is_turn e ≡ true → turns (e ∷ events) ≡ 0 → ⊥
 no-turn e events is h =
     let one : 1 + turns events ≡ 0 = ap (λ b. cond b 1 0 + turns events) (sym is) ∙ sym (turns-cons e events) ∙ h in
     absurd (omega (arith, one))
@@ -84,13 +87,15 @@ pub way-on :
     → OnItsWay m input allowed before outs held mid faults faults_mid
     → GoesOn m input before journal bytes
     → turns journal ≤ allowed
+    → AllPass is_untimed journal
     → NoneOut outs'
     → GrewBy mid now bytes
     → faults_mid ≤ faults_now
     → OnItsWay m input allowed journal outs' held now faults faults_now
-way-on m input allowed before journal outs outs' held mid now faults faults_mid faults_now bytes way went within inside grew later =
+way-on m input allowed before journal outs outs' held mid now faults faults_mid faults_now bytes way went within untimed inside grew later =
     record {
       within = within;
+      untimed = untimed;
       inside = inside;
       grew =
           grew

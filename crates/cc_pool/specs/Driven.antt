@@ -1,5 +1,5 @@
 -- What a run leaves that was driven as far as it went.
-use Rattle.std.specs.Prelude.{◌≡◌, ◌≢◌, ◌≤◌, ℕ, Bool, false, List, ◌∷◌, ◌++◌, Option}
+use Rattle.std.specs.Prelude.{◌≡◌, ◌≢◌, ◌≤◌, ℕ, Bool, false, not, List, ◌∷◌, ◌++◌, Option}
 use Rattle.cc_base.specs.Meaning.{Meaning}
 use Rattle.cc_base.specs.declared.names.FaultKind.{FaultKind}
 use Rattle.cc_base.specs.declared.names.Pid.{Pid}
@@ -7,7 +7,7 @@ use Rattle.cc_kernel.specs.Faults.{faults_from}
 use Rattle.cc_kernel.specs.Held.{IsOver}
 use Rattle.cc_kernel.specs.Seats.{is_out_in}
 use Rattle.cc_kernel.specs.Standing.{standing_of}
-use Rattle.cc_rules.specs.Events.{request_at, word_of}
+use Rattle.cc_rules.specs.Events.{is_time, request_at, word_of}
 use Rattle.cc_rules.specs.Runs.{IsRun, IsSettledRun, bytes_of, printed, state_after, turns}
 use Rattle.cc_rules.specs.Stops.{StopsInPrint}
 use Rattle.cc_rules.specs.declared.event.Event.{Event}
@@ -39,6 +39,10 @@ pub record StopsAtTheSink (m : Meaning) (input : List ℕ) (journal : List Event
 -- the sink grew by a first part of what the run prints, or by all of it
 abbrev pub StopsForMemory : Meaning → List ℕ → List Event → Option (List ℕ) → Option (List ℕ) → Type 0
 StopsForMemory m input journal held held_after = GrewWithin held held_after (printed m input journal)
+
+-- the event is no Time
+abbrev pub is_untimed : Event → Bool
+is_untimed event = not (is_time event)
 
 -- no process is out
 abbrev pub NoneOut : List Bool → Type 0

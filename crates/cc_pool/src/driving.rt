@@ -1,9 +1,11 @@
-ghost use Rattle.std.specs.Prelude.{◌≡◌, ◌≤◌, ◌⊎◌, ℕ, List, [], OnOk, OnErr, IfOk, IfErr, IsErrOf};
+ghost use Rattle.std.specs.Prelude.{◌≡◌, ◌≤◌, ◌⊎◌, ℕ, List, [], false, OnOk, OnErr, IfOk, IfErr, IsErrOf};
+ghost use Rattle.std.specs.List.{AllPass};
 ghost use Rattle.cc_base.specs.Meaning.{Meaning};
 ghost use Rattle.cc_base.specs.Served.{AsksServed, IsServed};
 ghost use Rattle.cc_kernel.specs.Held.{IsOutWith, IsPreparedFor, SomeRunning};
 ghost use Rattle.cc_kernel.specs.Standing.{standing_of};
-ghost use Rattle.cc_pool.specs.Driven.{GoesOn, GoesToItsEnd, IsRunOf, NoneOut, OnlyOut, StopsAtTheSink, StopsForMemory};
+ghost use Rattle.cc_pool.specs.Driven.{GoesOn, GoesToItsEnd, IsRunOf, NoneOut, OnlyOut, StopsAtTheSink, StopsForMemory, is_untimed};
+ghost use Rattle.cc_rules.specs.Ends.{is_complete};
 ghost use Rattle.cc_rules.specs.Events.{request_at};
 ghost use Rattle.cc_rules.specs.Runs.{printed, state_after, turns};
 ghost use Rattle.cc_rules.specs.declared.event.Standing.TheVariants.{Going};
@@ -95,6 +97,7 @@ fn run_on<B: Behave, K: Sink>(alloc: Global, kernel: &mut Kernel<B>, out: &mut K
     ensures write { result ≡ Stop.Write → StopsAtTheSink (B.means kernel.old.code) kernel.old.input kernel.new.journal (K.held out.old) (K.held out.new) }
     ensures cause { result ≡ Stop.Write → Rose (K.faults out.old) (K.faults out.new) }
     ensures memory { result ≡ Stop.Memory → StopsForMemory (B.means kernel.old.code) kernel.old.input kernel.new.journal (K.held out.old) (K.held out.new) }
+    ensures untimed { AllPass is_untimed kernel.new.journal }
     ensures later { K.faults out.old ≤ K.faults out.new }
 {
     while kernel.state() == Standing::Going {
@@ -146,8 +149,10 @@ pub fn drive<B: Behave, K: Sink>(
     ensures run { IsRunOf (B.means code.now.value) input turns result.journal.items result.faults.items result.standing }
     ensures over { result.stop ≡ Stop.Over → GoesToItsEnd (B.means code.now.value) input result.journal.items result.standing (K.held out) (K.held result.out) }
     ensures write { result.stop ≡ Stop.Write → StopsAtTheSink (B.means code.now.value) input result.journal.items (K.held out) (K.held result.out) }
+    ensures incomplete { result.stop ≡ Stop.Write → is_complete (state_after (B.means code.now.value) input result.journal.items) ≡ false }
     ensures cause { result.stop ≡ Stop.Write → Rose (K.faults out) (K.faults result.out) }
     ensures memory { result.stop ≡ Stop.Memory → StopsForMemory (B.means code.now.value) input result.journal.items (K.held out) (K.held result.out) }
+    ensures untimed { AllPass is_untimed result.journal.items }
     ensures later { K.faults out ≤ K.faults result.out }
 {
     let mut out = out;

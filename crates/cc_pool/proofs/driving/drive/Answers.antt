@@ -1,5 +1,6 @@
 use Rattle.std.proofs.Common.{◌∙◌}
 use Rattle.cc_pool.proofs.Begun.{empty-run, kernel-run}
+use Rattle.cc_pool.proofs.Unfinished.{print-incomplete}
 use Rattle.cc_pool.proofs.driving.drive.Goals as goal
 
 pub returns-in_default-clause-run : goal.returns-in_default-clause-run
@@ -17,3 +18,12 @@ returns-clause-run g c =
     (c.run_on-stop.ensures.input ∙ c.in-Ok.ensures.input)
     (c.run_on-stop.ensures.turns ∙ c.in-Ok.ensures.turns)
     told.journal told.within told.runs told.settled c.state-standing.ensures.standing told.faults
+
+pub returns-clause-incomplete : goal.returns-clause-incomplete
+returns-clause-incomplete g c =
+    let m = g.B.Behave.means c.args.code.now.value in
+    let stops = rw (c.in-Ok.ensures.code, c.in-Ok.ensures.input) at c.run_on-stop.ensures.write in
+    let told = c.into_journal-journal.ensures in
+    λ is. rw told.journal
+    (print-incomplete m c.args.input c.run_on-stop.new.kernel.journal (stops is).part
+    (rw told.journal at (returns-clause-run g c).legal) (stops is).stops)

@@ -1,5 +1,8 @@
-use Rattle.std.proofs.Common.{◌∙◌, ap, inl, inr, Err}
+use Rattle.std.proofs.Common.{◌∙◌, ap, inl, inr, subst, sym, Err}
+use Rattle.std.specs.List.{AllPass}
+use Rattle.cc_pool.specs.Driven.{is_untimed}
 use Rattle.cc_pool.proofs.Turns.{memory-stops, memory-stops_between, sink-stops, way-on}
+use Rattle.cc_pool.proofs.Unfinished.{untimed-on}
 use Rattle.cc_pool.proofs.driving.run_on.Goals as goal
 
 pub loop-alloc-preserved : goal.loop-alloc-preserved
@@ -11,7 +14,7 @@ loop-alloc-preserved g c =
       c.step.ensures.input ∙ was.1,
       c.step.ensures.turns ∙ was.2,
       way-on (g.B.Behave.means c.args.kernel.now.code) c.args.kernel.now.input c.args.kernel.now.turns _ _ _ _ _ _ _ _ _ _ done.0
-          was.3 done.1 within c.in-Ok.ensures.inside done.2 c.step.ensures.later,
+          was.3 done.1 within (untimed-on _ _ _ _ done.0 done.1 was.3.untimed) c.in-Ok.ensures.inside done.2 c.step.ensures.later,
     )
 
 pub returns-in-Err-Write-clause-write : goal.returns-in-Err-Write-clause-write
@@ -27,4 +30,18 @@ returns-in-Err-Memory-clause-memory g c =
     λ is. elim stopped [
       | inl between ↦ memory-stops_between (g.B.Behave.means c.args.kernel.now.code) c.args.kernel.now.input _ _ _ _ _ was.3.grew between.0 between.1
       | inr within ↦ memory-stops (g.B.Behave.means c.args.kernel.now.code) c.args.kernel.now.input _ _ _ _ _ within.0 was.3.grew within.1 within.2
+    ]
+
+pub returns-in-Err-Write-clause-untimed : goal.returns-in-Err-Write-clause-untimed
+returns-in-Err-Write-clause-untimed g c =
+    let was = c.loop-alloc.invariant in
+    let stopped = c.in-Err-Write.ensures.write (ap Err c.in-Err-Write.field-0-is) in
+    untimed-on _ _ _ _ stopped.0 stopped.1 was.3.untimed
+
+pub returns-in-Err-Memory-clause-untimed : goal.returns-in-Err-Memory-clause-untimed
+returns-in-Err-Memory-clause-untimed g c =
+    let was = c.loop-alloc.invariant in
+    elim (c.in-Err-Memory.ensures.memory (ap Err c.in-Err-Memory.field-0-is)) [
+      | inl between ↦ subst (AllPass is_untimed) (sym between.0) was.3.untimed
+      | inr within ↦ untimed-on _ _ _ _ within.0 within.1 was.3.untimed
     ]

@@ -1,0 +1,128 @@
+-- A run whose last turn is the Ask of a Print is not complete: who asked is running.
+use Rattle.std.proofs.Common.{◌≡◌, ℕ, ◌<◌, Bool, true, false, ◌&&◌, List, [], ◌∷◌, length, refl, sym, ap, ◌∙◌, subst, arith}
+use Rattle.std.specs.Prelude.{if◌then◌else◌}
+use Rattle.std.specs.List.{AllPass}
+use Rattle.std.proofs.lemmas.List.Folds.{list_all_at}
+use Rattle.std.proofs.lemmas.List.Elements.{All-append, All-cons, All-nil}
+use Rattle.cc_base.specs.Meaning.{Meaning}
+use Rattle.cc_base.specs.declared.names.Pid.{Pid}
+use Rattle.cc_base.specs.declared.request.Request.{Request}
+use Rattle.cc_base.specs.declared.request.Request.TheVariants as request
+use Rattle.cc_base.specs.declared.request.Grant.TheVariants.{Go}
+use Rattle.cc_pool.proofs.Turns.{no-turn, turns-cons}
+use Rattle.cc_pool.specs.Driven.{GoesOn, is_untimed}
+use Rattle.cc_rules.proofs.EndIsLast.{run-at}
+use Rattle.cc_rules.proofs.GoOn.{after-append}
+use Rattle.cc_rules.proofs.Held.{at-same}
+use Rattle.cc_rules.proofs.NextStays.{running-within, same-running}
+use Rattle.cc_rules.specs.Effects.{effect, granted}
+use Rattle.cc_rules.specs.Ends.{is_complete, is_due}
+use Rattle.cc_rules.specs.Events.{is_legal, next, request_at, same_word, word_of}
+use Rattle.cc_rules.specs.Runs.{IsRun, IsRunFrom, after, bytes_of, is_turn, state_after, turns}
+use Rattle.cc_rules.specs.State.{State, first_state, is_over, is_running, nobody, process_at}
+use Rattle.cc_rules.specs.Stops.{StopsInPrint}
+use Rattle.cc_rules.specs.declared.event.Event.{Event}
+use Rattle.cc_rules.specs.declared.event.Event.TheVariants.{Ask, Accept, Instant, Expire, Withdraw, Time, End}
+use Rattle.cc_rules.specs.declared.event.Word.{Word}
+use Rattle.cc_rules.specs.declared.event.Word.TheVariants as word
+use Rattle.cc_rules.specs.declared.process.ProcessStanding.{ProcessStanding}
+use Rattle.cc_rules.specs.declared.process.ProcessStanding.TheVariants.{Running, AtSelect, AtDelay, AtCall, Ended, Faulted}
+
+turns-rest : (e : Event) (events : List Event) → turns (e ∷ events) ≡ 0 → turns events ≡ 0
+turns-rest e events h = let cons = turns-cons e events in omega (arith, h, cons)
+
+-- what is running is running after events that are no turns
+still-running :
+    (m : Meaning) (s : State) (p : Pid) (events : List Event)
+    → turns events ≡ 0
+    → IsRunFrom m s events
+    → is_running (process_at s.processes p.0).standing ≡ true
+    → is_running (process_at (after m s events).processes p.0).standing ≡ true
+still-running m s p [] quiet run r = r
+still-running m s p (e ∷ events) quiet run r =
+    let same = same-running m s e p run.0 (λ w is. no-turn e events (ap is_turn is) quiet) r in
+    still-running m (next m s e) p events (turns-rest e events quiet) run.1 (ap (λ q. is_running q.standing) same ∙ r)
+
+asker-if : (due running same : Bool) → (if due then false else running && same) ≡ true → running ≡ true
+asker-if true running same h = cc
+asker-if false true same h = refl
+asker-if false false same h = cc
+
+-- who asks is running
+asker-running : (m : Meaning) (s : State) (p : Pid) (w : Word) → is_legal m s (Ask p w) ≡ true → is_running (process_at s.processes p.0).standing ≡ true
+asker-running m s p w h = asker-if (is_due m s) (is_running (process_at s.processes p.0).standing) (same_word w (word_of (request_at m s p))) h
+
+-- and goes on after a Print
+printer-running :
+    (m : Meaning) (s : State) (p : Pid) (r : Request) (n : ℕ)
+    → n < length (bytes_of r)
+    → is_running (process_at s.processes p.0).standing ≡ true
+    → is_running (process_at (effect m s p r).processes p.0).standing ≡ true
+printer-running m s p request.Pause n lt r = absurd (omega (arith, lt))
+printer-running m s p (request.Create kind args) n lt r = absurd (omega (arith, lt))
+printer-running m s p (request.Call target trans args) n lt r = absurd (omega (arith, lt))
+printer-running m s p (request.TimedCall target trans args wait) n lt r = absurd (omega (arith, lt))
+printer-running m s p (request.Send target trans args) n lt r = absurd (omega (arith, lt))
+printer-running m s p (request.Select alts) n lt r = absurd (omega (arith, lt))
+printer-running m s p (request.Delay wait) n lt r = absurd (omega (arith, lt))
+printer-running m s p (request.Reply value) n lt r = absurd (omega (arith, lt))
+printer-running m s p (request.Print bytes) n lt r =
+    ap (λ q. is_running q.standing)
+    (at-same s.processes p.0 (granted (process_at s.processes p.0) Go) (running-within s.processes p.0 r))
+printer-running m s p request.Get n lt r = absurd (omega (arith, lt))
+printer-running m s p request.Done n lt r = absurd (omega (arith, lt))
+printer-running m s p (request.Fault kind) n lt r = absurd (omega (arith, lt))
+
+running-not-over : (standing : ProcessStanding) → is_running standing ≡ true → is_over standing ≡ false
+running-not-over Running r = refl
+running-not-over (AtSelect alts asked) r = cc
+running-not-over (AtDelay deadline) r = cc
+running-not-over (AtCall call) r = cc
+running-not-over Ended r = cc
+running-not-over (Faulted kind) r = cc
+
+running-incomplete : (s : State) (p : ℕ) → is_running (process_at s.processes p).standing ≡ true → is_complete s ≡ false
+running-incomplete s p r =
+    list_all_at (λ q. is_over q.standing) s.processes p nobody (running-within s.processes p r)
+    (running-not-over (process_at s.processes p).standing r)
+
+pub print-incomplete :
+    (m : Meaning) (input : List ℕ) (events : List Event) (part : List ℕ)
+    → IsRun m input events
+    → StopsInPrint m input events part
+    → is_complete (state_after m input events) ≡ false
+print-incomplete m input events part run stops =
+    let s = state_after m input stops.before in
+    let ask = Ask stops.pid word.Print in
+    let here = run-at m (first_state input) stops.before ask stops.settling (subst (IsRunFrom m (first_state input)) stops.last_turn run) in
+    let asks = asker-running m s stops.pid word.Print here.0 in
+    let goes = printer-running m s stops.pid (request_at m s stops.pid) stops.count stops.proper asks in
+    let runs = still-running m (next m s ask) stops.pid stops.settling stops.no_turn here.1 goes in
+    let there : state_after m input events ≡ after m (next m s ask) stops.settling = ap (state_after m input) stops.last_turn ∙ after-append m (first_state input) stops.before (ask ∷ stops.settling) in
+    ap is_complete there ∙ running-incomplete (after m (next m s ask) stops.settling) stops.pid.0 runs
+
+-- events that are no turns are no Time
+quiet-untimed : (events : List Event) → turns events ≡ 0 → AllPass is_untimed events
+quiet-untimed [] h = All-nil (λ e. is_untimed e ≡ true)
+quiet-untimed (e ∷ events) h = All-cons (λ x. is_untimed x ≡ true) e events (own e (λ is. no-turn e events is h)) (quiet-untimed events (turns-rest e events h))
+  where
+    own : (x : Event) → (is_turn x ≡ true → ⊥) → is_untimed x ≡ true
+    own (Ask p w) never = refl
+    own (Accept p i c) never = refl
+    own (Instant p i) never = refl
+    own (Expire p i) never = refl
+    own (Withdraw c) never = refl
+    own (Time t) never = absurd (never refl)
+    own End never = refl
+
+-- a run that goes on stays without a Time
+pub untimed-on :
+    (m : Meaning) (input : List ℕ) (before journal : List Event) (bytes : List ℕ)
+    → GoesOn m input before journal bytes
+    → AllPass is_untimed before
+    → AllPass is_untimed journal
+untimed-on m input before journal bytes went untimed =
+    let ask = Ask went.pid (word_of (request_at m (state_after m input before) went.pid)) in
+    subst (AllPass is_untimed) (sym went.events)
+    (All-append (λ e. is_untimed e ≡ true) before (ask ∷ went.settling) untimed
+    (All-cons (λ e. is_untimed e ≡ true) ask went.settling refl (quiet-untimed went.settling went.quiet)))
