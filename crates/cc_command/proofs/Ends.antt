@@ -1,5 +1,5 @@
 -- A status tells how the command ended.
-use Rattle.std.proofs.Common.{◌≡◌, Some, None, refl, sym, ◌∙◌, ap, Result}
+use Rattle.std.proofs.Common.{◌≡◌, [], ◌∷◌, Some, None, refl, sym, ◌∙◌, ap, arith, Result, Contains, IfOk}
 use Rattle.std.specs.Prelude.{IsErrOf, OnOk, unwrap_or}
 use Rattle.cc_command.specs.declared.cause.Cause.{Cause}
 use Rattle.cc_command.specs.declared.cause.Cause.TheVariants.{Usage, Text, Shelf, Write, Memory}
@@ -38,3 +38,21 @@ line-report (Result.Err Memory) = refl
 pub on_ok : {T E P Q : Type 0} (answer : Result T E) → (P → Q) → OnOk answer P → OnOk answer Q
 on_ok (Result.Ok x) follows p = follows p
 on_ok (Result.Err e) follows p = tt
+
+pub if_ok : {T E : Type 0} (P Q : T → Type 0) (answer : Result T E) → ((x : T) → P x → Q x) → IfOk answer P → IfOk answer Q
+if_ok P Q (Result.Ok x) follows p = follows x p
+if_ok P Q (Result.Err e) follows p = tt
+
+pub known-status : {T : Type 0} (answer : Result T Cause) → Contains (0 ∷ 1 ∷ 2 ∷ 6 ∷ 8 ∷ 9 ∷ []) (status_of answer)
+known-status (Result.Ok x) = (0, omega arith, refl)
+known-status (Result.Err Usage) = (1, omega arith, refl)
+known-status (Result.Err Text) = (2, omega arith, refl)
+known-status (Result.Err Shelf) = (3, omega arith, refl)
+known-status (Result.Err Write) = (4, omega arith, refl)
+known-status (Result.Err Memory) = (5, omega arith, refl)
+
+-- the cause of a refusal is the same, whatever would have been the answer
+pub same-cause : {T U E : Type 0} (e x : E) → IsErrOf {T = T} (Result.Err e) x → IsErrOf {T = U} (Result.Err e) x
+same-cause e x is =
+    let same : e ≡ x = cc in
+    ap (λ c. Result.Err c) same

@@ -25,17 +25,17 @@ use Rattle.cc_rules.specs.declared.event.Event.TheVariants.{Ask, Accept, Instant
 use Rattle.cc_rules.specs.declared.event.Word.TheVariants as word
 use Rattle.cc_rules.specs.declared.process.ProcessStanding.{ProcessStanding}
 use Rattle.cc_rules.specs.declared.process.ProcessStanding.TheVariants.{Running, Ended}
-use Rattle.cc_command.specs.Printing.{printing, request_after, main, asked, is_untimed}
+use Rattle.cc_command.specs.Printing.{printing, request_after, main, asked}
 use Rattle.cc_command.specs.Outcomes.{RunsToItsEnd, StopsAtTheSink, StopsForMemory}
 use Rattle.cc_world.specs.Told.{with_bytes, GrewBy, GrewWithin}
 use Rattle.cc_world.proofs.Grown.{grown_twice, not_grown}
 
 -- `main`, standing so, after these grants
-abbrev main_at : List Grant → ProcessStanding → Process
+abbrev pub main_at : List Grant → ProcessStanding → Process
 main_at grants standing = record { kind = 0; args = []; grants = grants; standing = standing; serving = [] }
 
 -- the machine with `main` alone
-abbrev alone : List Grant → ProcessStanding → State
+abbrev pub alone : List Grant → ProcessStanding → State
 alone grants standing =
     record {
       processes = main_at grants standing ∷ [];
@@ -48,7 +48,7 @@ alone grants standing =
     }
 
 -- what holds of the one process and of nobody holds of each number
-of_each : (P : Process → Type 0) (q : Process) (n : ℕ) → P q → P nobody → P (process_at (q ∷ []) n)
+pub of_each : (P : Process → Type 0) (q : Process) (n : ℕ) → P q → P nobody → P (process_at (q ∷ []) n)
 of_each P q zero here none = here
 of_each P q (suc n) here none = none
 
@@ -75,10 +75,10 @@ settled_alone bytes grants standing none never undue (Withdraw c) settling = rw 
 settled_alone bytes grants standing none never undue (Time t) settling = cc
 settled_alone bytes grants standing none never undue End settling = rw undue refl
 
-settled_running : (bytes : List ℕ) (grants : List Grant) → IsSettled (printing bytes) (alone grants Running)
+pub settled_running : (bytes : List ℕ) (grants : List Grant) → IsSettled (printing bytes) (alone grants Running)
 settled_running bytes grants = settled_alone bytes grants Running refl (λ m s p i. refl) refl
 
-settled_ended : (bytes : List ℕ) (grants : List Grant) → IsSettled (printing bytes) (alone grants Ended)
+pub settled_ended : (bytes : List ℕ) (grants : List Grant) → IsSettled (printing bytes) (alone grants Ended)
 settled_ended bytes grants = settled_alone bytes grants Ended refl (λ m s p i. refl) refl
 
 -- a run goes on with one more event
@@ -138,13 +138,13 @@ none_printed bytes =
     }
 
 -- what `main` asks after k + 1 grants
-asks_print : (bytes : List ℕ) (k n : ℕ) → k < length bytes → n ≡ k + 1 → request_after bytes n ≡ Print (get_or bytes k 0 ∷ [])
+pub asks_print : (bytes : List ℕ) (k n : ℕ) → k < length bytes → n ≡ k + 1 → request_after bytes n ≡ Print (get_or bytes k 0 ∷ [])
 asks_print bytes k n lt is =
     let here : n - 1 ≡ k = omega arith in
     ap (λ i. option_map_or (λ byte. Print (byte ∷ [])) (slice_get bytes i) Done) here
     ∙ ap (λ o. option_map_or (λ byte. Print (byte ∷ [])) o Done) (slice_get-get_or bytes k 0 lt)
 
-asks_done : (bytes : List ℕ) (n : ℕ) → n ≡ length bytes + 1 → request_after bytes n ≡ Done
+pub asks_done : (bytes : List ℕ) (n : ℕ) → n ≡ length bytes + 1 → request_after bytes n ≡ Done
 asks_done bytes n is =
     let past : slice_get bytes (n - 1) ≡ None = slice_get_past bytes (n - 1) (omega arith) in
     ap (λ o. option_map_or (λ byte. Print (byte ∷ [])) o Done) past
@@ -176,162 +176,4 @@ one_printed bytes k events lt p =
           ∙ ap₂ (λ (a b : List ℕ). a ++ b) p.printed prints
           ∙ sym (take-suc bytes k 0 lt)
           ∙ ap (λ n. take n bytes) (sym (add-one k));
-    }
-
--- so far the first k bytes are printed and put into the sink, whose count of faults has not fallen
-pub record PutSoFar (bytes : List ℕ) (k : ℕ) (events : List Event) (held held_now : Option (List ℕ)) (faults faults_now : ℕ) : Type 0 where
-  pub run : Printed bytes k events
-  pub grew : GrewBy held held_now (take k bytes)
-  pub later : faults ≤ faults_now
-  pub untimed : AllPass is_untimed events
-
--- a request is no Time
-pub untimed_on : (events journal : List Event) (w : Word) → journal ≡ events ++ asked w ∷ [] → AllPass is_untimed events → AllPass is_untimed journal
-untimed_on events journal w same untimed =
-    subst (AllPass is_untimed) (sym same) (All-push (λ e. is_untimed e ≡ true) events (asked w) untimed refl)
-
-pub none_put :
-    (bytes : List ℕ) (journal : List Event) (held : Option (List ℕ)) (faults : ℕ)
-    → journal ≡ []
-    → PutSoFar bytes 0 journal held held faults faults
-none_put bytes journal held faults empty =
-    record {
-      run = subst (Printed bytes 0) (sym empty) (none_printed bytes);
-      grew = sym (not_grown held);
-      later = omega arith;
-      untimed = subst (AllPass is_untimed) (sym empty) (All-nil (λ e. is_untimed e ≡ true));
-    }
-
--- after all bytes `main` is done
-pub all_put :
-    (bytes : List ℕ) (k : ℕ) (events journal : List Event) (held held_now : Option (List ℕ)) (faults faults_now : ℕ)
-    → length bytes ≤ k
-    → k ≤ length bytes
-    → journal ≡ events ++ (asked word.Done) ∷ []
-    → PutSoFar bytes k events held held_now faults faults_now
-    → RunsToItsEnd bytes journal held held_now
-all_put bytes k events journal held held_now faults faults_now ge le same so_far =
-    let p = so_far.run in
-    let m = printing bytes in
-    let s = alone p.grants Running in
-    let asks : request_after bytes (length p.grants) ≡ Done = asks_done bytes (length p.grants) (omega (arith, p.count)) in
-    let legal : is_legal m s (asked word.Done) ≡ true = ap (λ r. same_word word.Done (word_of r)) asks in
-    let ends : next m s (asked word.Done) ≡ alone p.grants Ended = ap (λ r. record (effect m s main r) { after_time = false }) asks in
-    let prints : event_bytes m s (asked word.Done) ≡ [] = ap bytes_of asks in
-    let last = state_on m (first_state []) s events (asked word.Done) p.state ∙ ends in
-    let all : printed_from m (first_state []) (events ++ (asked word.Done) ∷ []) ≡ take k bytes =
-    printed_on m (first_state []) s events (asked word.Done) p.state
-    ∙ ap₂ (λ (a b : List ℕ). a ++ b) p.printed prints
-    ∙ append-nil (take k bytes) in
-    let P : List Event → Type 0 = λ j. RunsToItsEnd bytes j held held_now in
-    subst P (sym same)
-    (record {
-      legal = run_on m (first_state []) s events (asked word.Done) p.state p.legal legal;
-      settled =
-          settled_on m (first_state []) s events (asked word.Done) p.state p.settled (settled_running bytes p.grants)
-          (subst (IsSettled m) (sym ends) (settled_ended bytes p.grants));
-      prints = so_far.grew ∙ ap (with_bytes held) (sym all);
-      ends = record { complete = ap is_complete last; no_fault = ap has_faulted last };
-    })
-
--- the sink took nothing of the next byte
-pub stopped_at :
-    (bytes : List ℕ) (k : ℕ) (events journal : List Event) (held held_now held_after : Option (List ℕ)) (faults faults_now : ℕ)
-    → k < length bytes
-    → journal ≡ events ++ (asked word.Print) ∷ []
-    → held_after ≡ held_now
-    → PutSoFar bytes k events held held_now faults faults_now
-    → StopsAtTheSink bytes journal held held_after
-stopped_at bytes k events journal held held_now held_after faults faults_now lt same kept so_far =
-    let p = so_far.run in
-    let m = printing bytes in
-    let q = one_printed bytes k events lt p in
-    let asks : request_after bytes (length p.grants) ≡ Print (get_or bytes k 0 ∷ []) = asks_print bytes k (length p.grants) lt p.count in
-    let P : List Event → Type 0 = λ j. StopsAtTheSink bytes j held held_after in
-    subst P (sym same)
-    (record {
-      legal = q.legal;
-      settled = q.settled;
-      part = take k bytes;
-      prints = kept ∙ so_far.grew;
-      stops =
-          record {
-            before = events;
-            pid = main;
-            settling = [];
-            last_turn = refl;
-            no_turn = refl;
-            count = 0;
-            proper = subst (λ (r : List ℕ). 0 < length r) (sym (ap (λ s. bytes_of (request_at m s main)) p.state ∙ ap bytes_of asks)) (omega arith);
-            parts = sym p.printed ∙ sym (append-nil (printed_from m (first_state []) events));
-          };
-      incomplete = ap is_complete q.state;
-    })
-
-within_all : (held held_now : Option (List ℕ)) (bytes : List ℕ) → GrewBy held held_now bytes → GrewWithin held held_now bytes
-within_all held held_now bytes grew =
-    record {
-      count = length bytes;
-      within = omega arith;
-      held = grew ∙ ap (with_bytes held) (sym (take_all (length bytes) bytes (omega arith)));
-    }
-
--- memory was wanting before the next byte was asked
-pub cut_before :
-    (bytes : List ℕ) (k : ℕ) (events journal : List Event) (held held_now held_after : Option (List ℕ)) (faults faults_now : ℕ)
-    → journal ≡ events
-    → held_after ≡ held_now
-    → PutSoFar bytes k events held held_now faults faults_now
-    → StopsForMemory bytes journal held held_after
-cut_before bytes k events journal held held_now held_after faults faults_now same kept so_far =
-    let p = so_far.run in
-    let P : List Event → Type 0 = λ j. StopsForMemory bytes j held held_after in
-    subst P (sym same)
-    (record {
-      legal = p.legal;
-      settled = p.settled;
-      prints = within_all held held_after (printed_from (printing bytes) (first_state []) events) (kept ∙ so_far.grew ∙ ap (with_bytes held) (sym p.printed));
-    })
-
--- memory was wanting as its byte was put
-pub cut_after :
-    (bytes : List ℕ) (k : ℕ) (events journal : List Event) (held held_now held_after : Option (List ℕ)) (faults faults_now : ℕ)
-    → k < length bytes
-    → journal ≡ events ++ (asked word.Print) ∷ []
-    → held_after ≡ held_now
-    → PutSoFar bytes k events held held_now faults faults_now
-    → StopsForMemory bytes journal held held_after
-cut_after bytes k events journal held held_now held_after faults faults_now lt same kept so_far =
-    let q = one_printed bytes k events lt so_far.run in
-    let P : List Event → Type 0 = λ j. StopsForMemory bytes j held held_after in
-    let first : take k (take (k + 1) bytes) ≡ take k bytes = take-take k (k + 1) bytes (omega arith) in
-    subst P (sym same)
-    (record {
-      legal = q.legal;
-      settled = q.settled;
-      prints = record {
-        count = k;
-        within = omega (arith, ap length q.printed, length-take-le (k + 1) bytes);
-        held = kept ∙ so_far.grew ∙ ap (with_bytes held) (sym (ap (take k) q.printed ∙ first));
-      };
-    })
-
--- the next byte is put
-pub one_put :
-    (bytes : List ℕ) (k byte : ℕ) (events journal : List Event) (held held_now held_after : Option (List ℕ)) (faults faults_now faults_after : ℕ)
-    → k < length bytes
-    → byte ≡ get_or bytes k 0
-    → journal ≡ events ++ (asked word.Print) ∷ []
-    → GrewBy held_now held_after (byte ∷ [])
-    → faults_now ≤ faults_after
-    → PutSoFar bytes k events held held_now faults faults_now
-    → PutSoFar bytes (k + 1) journal held held_after faults faults_after
-one_put bytes k byte events journal held held_now held_after faults faults_now faults_after lt is same grew later so_far =
-    let next_bytes : take (k + 1) bytes ≡ take k bytes ++ byte ∷ [] =
-    ap (λ n. take n bytes) (add-one k) ∙ take-suc bytes k 0 lt ∙ ap (λ b. take k bytes ++ b ∷ []) (sym is) in
-    record {
-      run = subst (Printed bytes (k + 1)) (sym same) (one_printed bytes k events lt so_far.run);
-      grew = grew ∙ ap (λ known. with_bytes known (byte ∷ [])) so_far.grew ∙ grown_twice held (take k bytes) (byte ∷ []) ∙ ap (with_bytes held) (sym next_bytes);
-      later = omega (arith, so_far.later);
-      untimed = untimed_on events journal word.Print same so_far.untimed;
     }

@@ -5,6 +5,8 @@ use Rattle.std.proofs.lemmas.List.{length-take}
 use Rattle.std.specs.FinMap as map
 use Rattle.cc_command.specs.Form.{IsProgram}
 use Rattle.cc_command.specs.Outcomes.{HoldsNoProgram, HoldsProgram, HoldsText}
+use Rattle.cc_command.specs.Program.{IsText, program_of}
+use Rattle.cc_source.specs.Parts.{Parts}
 use Rattle.cc_world.specs.Shelf.{Files, IsStartOf}
 
 contents_of : (got : Option (List ℕ)) (text : List ℕ) → option_map (λ c. take 1048577 c) got ≡ Some text → (c : List ℕ) × (got ≡ Some c) × (take 1048577 c ≡ text)
@@ -21,12 +23,21 @@ holds_text (Some m) name text is le =
     f.1 ∙ ap (λ (c : List ℕ). Some c) (whole f.0 text f.2 le)
 
 pub holds_program :
-    (files : Option Files) (name text bytes : List ℕ)
+    (files : Option Files) (name text : List ℕ) (program : Parts)
     → IsStartOf files name 1048577 text
-    → IsProgram text bytes
-    → HoldsProgram files name (λ printed. printed ≡ bytes)
-holds_program files name text bytes is program =
-    record { text = text; held = holds_text files name text is program.fits; bytes = bytes; program = program; follows = refl }
+    → IsText text program
+    → HoldsProgram files name (λ bytes. program ≡ program_of bytes)
+holds_program files name text program is found =
+    record { text = text; held = holds_text files name text is found.1.fits; bytes = found.0; program = found.1; follows = found.2 }
+
+-- what follows for the program of a text holds of the file's
+pub of_program :
+    (files : Option Files) (name : List ℕ) (program : Parts) (Then : List ℕ → Type 0)
+    → HoldsProgram files name (λ bytes. program ≡ program_of bytes)
+    → ((text bytes : List ℕ) → IsProgram text bytes → program ≡ program_of bytes → Then bytes)
+    → HoldsProgram files name Then
+of_program files name program Then held follows =
+    record { text = held.text; held = held.held; bytes = held.bytes; program = held.program; follows = follows held.text held.bytes held.program held.follows }
 
 pub holds_no_program :
     (files : Option Files) (name text : List ℕ)

@@ -4,3 +4,4 @@ pub mod Asked
 pub mod Printing
 pub mod Statuses
 pub mod Outcomes
+pub mod Program

@@ -2,7 +2,7 @@
 use Rattle.std.specs.Prelude.{◌≡◌, ℕ, false, List, [], Option, Some, None, IfSome, option_map}
 use Rattle.std.specs.FinMap as map
 use Rattle.cc_command.specs.Form.{IsProgram}
-use Rattle.cc_command.specs.Printing.{printing}
+use Rattle.cc_command.specs.Program.{means}
 use Rattle.cc_rules.specs.Ends.{is_complete}
 use Rattle.cc_rules.specs.Runs.{IsRun, IsSettledRun, printed, state_after}
 use Rattle.cc_rules.specs.Stops.{EndsWell, StopsInPrint}
@@ -40,23 +40,23 @@ pub record HoldsProgram (files : Option Files) (file : List ℕ) (Then : List �
 -- the journal is a settled run of the program, the sink grew by exactly what the run prints, and at its end every
 -- process has ended, none by a fault
 pub record RunsToItsEnd (bytes : List ℕ) (journal : List Event) (held held_after : Option (List ℕ)) : Type 0 where
-  pub legal : IsRun (printing bytes) [] journal
-  pub settled : IsSettledRun (printing bytes) [] journal
-  pub prints : GrewBy held held_after (printed (printing bytes) [] journal)
-  pub ends : EndsWell (printing bytes) [] journal
+  pub legal : IsRun (means bytes) [] journal
+  pub settled : IsSettledRun (means bytes) [] journal
+  pub prints : GrewBy held held_after (printed (means bytes) [] journal)
+  pub ends : EndsWell (means bytes) [] journal
 
 -- the journal is a settled run of the program whose last turn is the Ask of a Print; the sink grew by what all Prints
 -- before it print and by a proper first part of its own bytes
 pub record StopsAtTheSink (bytes : List ℕ) (journal : List Event) (held held_after : Option (List ℕ)) : Type 0 where
-  pub legal : IsRun (printing bytes) [] journal
-  pub settled : IsSettledRun (printing bytes) [] journal
+  pub legal : IsRun (means bytes) [] journal
+  pub settled : IsSettledRun (means bytes) [] journal
   pub part : List ℕ
   pub prints : GrewBy held held_after part
-  pub stops : StopsInPrint (printing bytes) [] journal part
-  pub incomplete : is_complete (state_after (printing bytes) [] journal) ≡ false
+  pub stops : StopsInPrint (means bytes) [] journal part
+  pub incomplete : is_complete (state_after (means bytes) [] journal) ≡ false
 
 -- the journal is a settled run of the program, and the sink grew by a first part of what it prints, or by all of that
 pub record StopsForMemory (bytes : List ℕ) (journal : List Event) (held held_after : Option (List ℕ)) : Type 0 where
-  pub legal : IsRun (printing bytes) [] journal
-  pub settled : IsSettledRun (printing bytes) [] journal
-  pub prints : GrewWithin held held_after (printed (printing bytes) [] journal)
+  pub legal : IsRun (means bytes) [] journal
+  pub settled : IsSettledRun (means bytes) [] journal
+  pub prints : GrewWithin held held_after (printed (means bytes) [] journal)

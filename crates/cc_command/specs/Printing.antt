@@ -1,11 +1,10 @@
 -- What a program means that prints bytes, one after another.
-use Rattle.std.specs.Prelude.{ℕ, ◌-◌, Bool, not, List, [], ◌∷◌, length, slice_get, None}
+use Rattle.std.specs.Prelude.{ℕ, ◌-◌, List, [], ◌∷◌, length, slice_get, None}
 use Rattle.std.specs.Option.{option_map_or}
 use Rattle.cc_base.specs.Meaning.{Meaning}
 use Rattle.cc_base.specs.declared.names.Pid.{Pid}
 use Rattle.cc_base.specs.declared.request.Request.{Request}
 use Rattle.cc_base.specs.declared.request.Request.TheVariants.{Print, Done}
-use Rattle.cc_rules.specs.Events.{is_time}
 use Rattle.cc_rules.specs.declared.event.Event.{Event}
 use Rattle.cc_rules.specs.declared.event.Event.TheVariants.{Ask}
 use Rattle.cc_rules.specs.declared.event.Word.{Word}
@@ -31,7 +30,3 @@ main = record { 0 = 0 }
 -- `main` asks a request of this word
 abbrev pub asked : Word → Event
 asked w = Ask main w
-
--- the event is no Time
-abbrev pub is_untimed : Event → Bool
-is_untimed event = not (is_time event)

@@ -1,6 +1,9 @@
 -- The statuses of the command, and the lines that report them.
 use Rattle.std.specs.Prelude.{◌==◌, ℕ, List, [], Result, Option, Some, None, codes, if◌then◌else◌}
 use Rattle.std.specs.Option.{option_map_or}
+use Rattle.cc_pool.specs.declared.driven.Stop.{Stop}
+use Rattle.cc_pool.specs.declared.driven.Stop.TheVariants.{Over}
+use Rattle.cc_pool.specs.declared.driven.Stop.TheVariants as stop
 use Rattle.cc_command.specs.declared.cause.Cause.{Cause}
 use Rattle.cc_command.specs.declared.cause.Cause.TheVariants.{Usage, Text, Shelf, Write, Memory}
 
@@ -41,3 +44,9 @@ cause_of status =
 -- the report of a status: nothing for 0
 abbrev pub report_of : ℕ → List ℕ
 report_of status = option_map_or line_at (cause_of status) []
+
+-- what becomes of the command where its run went no further for this cause
+abbrev pub answer_of : Stop → Result (Unit {0}) Cause
+answer_of Over = Result.Ok tt
+answer_of stop.Write = Result.Err Write
+answer_of stop.Memory = Result.Err Memory

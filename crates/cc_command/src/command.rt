@@ -4,25 +4,39 @@ ghost use Rattle.std.specs.FinMap as map;
 ghost use Rattle.cc_command.specs.Asked.{file_asked};
 ghost use Rattle.cc_command.specs.Form.{IsProgram};
 ghost use Rattle.cc_command.specs.Outcomes.{HoldsNoProgram, HoldsProgram, RunsToItsEnd, StopsAtTheSink, StopsForMemory, TellsNone, TellsText};
-ghost use Rattle.cc_command.specs.Printing.{is_untimed};
+ghost use Rattle.cc_command.specs.Program.{program_of};
 ghost use Rattle.cc_command.specs.Statuses.{line_of, report_of, status_of};
+ghost use Rattle.cc_pool.specs.Driven.{is_untimed};
 ghost use Rattle.cc_world.specs.Causes.{Rose};
 ghost use Rattle.cc_world.specs.Shelf.{FailedMore};
 ghost use Rattle.cc_world.specs.Told.{Reported};
 ghost use Rattle.cc_world.specs.declared.fault.ShelfCall.{ShelfCall};
 
 use crate::cause::Cause;
-use crate::reader::{MOST_TEXT_BYTES, ReadError, read_program};
-use crate::running::{Cut, run_program};
+use crate::program::read_program;
+use crate::reader::{MOST_TEXT_BYTES, ReadError};
+use crate::running::{Ran, run_program, unbegun};
 use crate::words::{Words, asked_file};
-use cc_base::Bytes;
 use cc_rules::Journal;
+use cc_source::Early;
 use cc_world::{Clock, IoFault, Shelf, Sink, Source, write_all};
 use std::alloc::Global;
+use std::sync::Arc;
 
-/// Reads the program in a file: the bytes that it prints.
-fn load<H: Shelf>(alloc: Global, shelf: &mut H, file: &str) -> Result<Bytes, Cause>
-    ensures program { IfOk result (λ bytes. HoldsProgram (H.files shelf.old) file.now (λ printed. printed ≡ bytes)) }
+/// The program, as those have it who run it.
+fn shared(alloc: Global, program: Early) -> Result<Arc<Early>, Cause>
+    ensures program { IfOk result (λ shared. shared.value ≡ program) }
+    ensures only { IfErr result (λ cause. cause ≡ Cause.Memory) }
+{
+    match Arc::new(alloc, program) {
+        Ok(program) => Ok(program),
+        Err(_) => Err(Cause::Memory),
+    }
+}
+
+/// Reads the program in a file.
+fn load<H: Shelf>(alloc: Global, shelf: &mut H, file: &str) -> Result<Arc<Early>, Cause>
+    ensures program { IfOk result (λ program. HoldsProgram (H.files shelf.old) file.now (λ bytes. program.value ≡ program_of bytes)) }
     ensures text { IsErrOf result Cause.Text → HoldsNoProgram (H.files shelf.old) file.now }
     ensures shelf { IsErrOf result Cause.Shelf → FailedMore ShelfCall.Read file.now (H.failed shelf.old) (H.failed shelf.new) }
     ensures noted { IsErrOf result Cause.Shelf ⊎ (H.failed shelf.new ≡ H.failed shelf.old) }
@@ -35,47 +49,38 @@ fn load<H: Shelf>(alloc: Global, shelf: &mut H, file: &str) -> Result<Bytes, Cau
         Err(IoFault::Memory) => return Err(Cause::Memory),
     };
     match read_program(alloc, text.as_slice()) {
-        Ok(bytes) => Ok(bytes),
+        Ok(program) => shared(alloc, program),
         Err(ReadError::Unbuilt) => Err(Cause::Text),
         Err(ReadError::Memory) => Err(Cause::Memory),
     }
 }
 
-/// Runs the program in the file that the words name, from an empty journal.
-fn run_file<H: Shelf, K: Sink>(
-    alloc: Global,
-    words: &Words,
-    shelf: &mut H,
-    out: &mut K,
-    journal: &mut Journal,
-) -> Result<(), Cause>
-    requires { journal.old.items ≡ [] }
-    ensures usage { IsErrOf result Cause.Usage → file_asked words.now ≡ None }
-    ensures refused { file_asked words.now ≡ None → IsErrOf result Cause.Usage }
-    ensures done { OnOk result (IfSome (file_asked words.now) (λ file.
-        HoldsProgram (H.files shelf.old) file (λ bytes. RunsToItsEnd bytes journal.new.items (K.held out.old) (K.held out.new)))) }
-    ensures text { IsErrOf result Cause.Text → IfSome (file_asked words.now) (HoldsNoProgram (H.files shelf.old)) }
-    ensures shelf { IsErrOf result Cause.Shelf → IfSome (file_asked words.now) (λ file. FailedMore ShelfCall.Read file (H.failed shelf.old) (H.failed shelf.new)) }
-    ensures write { IsErrOf result Cause.Write → IfSome (file_asked words.now) (λ file.
-        HoldsProgram (H.files shelf.old) file (λ bytes. StopsAtTheSink bytes journal.new.items (K.held out.old) (K.held out.new))) }
-    ensures sink { IsErrOf result Cause.Write → Rose (K.faults out.old) (K.faults out.new) }
-    ensures memory { IsErrOf result Cause.Memory → (journal.new.items ≡ []) × (K.held out.new ≡ K.held out.old)
+/// Runs the program in the file that the words name.
+fn run_file<H: Shelf, K: Sink>(alloc: Global, words: &Words, shelf: &mut H, out: K) -> Ran<K>
+    ensures usage { IsErrOf result.answer Cause.Usage → file_asked words.now ≡ None }
+    ensures refused { file_asked words.now ≡ None → IsErrOf result.answer Cause.Usage }
+    ensures done { OnOk result.answer (IfSome (file_asked words.now) (λ file.
+        HoldsProgram (H.files shelf.old) file (λ bytes. RunsToItsEnd bytes result.journal.items (K.held out) (K.held result.out)))) }
+    ensures text { IsErrOf result.answer Cause.Text → IfSome (file_asked words.now) (HoldsNoProgram (H.files shelf.old)) }
+    ensures shelf { IsErrOf result.answer Cause.Shelf → IfSome (file_asked words.now) (λ file. FailedMore ShelfCall.Read file (H.failed shelf.old) (H.failed shelf.new)) }
+    ensures write { IsErrOf result.answer Cause.Write → IfSome (file_asked words.now) (λ file.
+        HoldsProgram (H.files shelf.old) file (λ bytes. StopsAtTheSink bytes result.journal.items (K.held out) (K.held result.out))) }
+    ensures sink { IsErrOf result.answer Cause.Write → Rose (K.faults out) (K.faults result.out) }
+    ensures memory { IsErrOf result.answer Cause.Memory → (result.journal.items ≡ []) × (K.held result.out ≡ K.held out)
         ⊎ IfSome (file_asked words.now) (λ file.
-        HoldsProgram (H.files shelf.old) file (λ bytes. StopsForMemory bytes journal.new.items (K.held out.old) (K.held out.new))) }
-    ensures unbegun { IsErrOf result Cause.Usage ⊎ IsErrOf result Cause.Text ⊎ IsErrOf result Cause.Shelf → journal.new.items ≡ [] }
-    ensures untouched { IsErrOf result Cause.Usage ⊎ IsErrOf result Cause.Text ⊎ IsErrOf result Cause.Shelf → out.new ≡ out.old }
-    ensures untimed { AllPass is_untimed journal.new.items }
-    ensures noted { IsErrOf result Cause.Shelf ⊎ (H.failed shelf.new ≡ H.failed shelf.old) }
+        HoldsProgram (H.files shelf.old) file (λ bytes. StopsForMemory bytes result.journal.items (K.held out) (K.held result.out))) }
+    ensures unbegun { IsErrOf result.answer Cause.Usage ⊎ IsErrOf result.answer Cause.Text ⊎ IsErrOf result.answer Cause.Shelf → result.journal.items ≡ [] }
+    ensures untouched { IsErrOf result.answer Cause.Usage ⊎ IsErrOf result.answer Cause.Text ⊎ IsErrOf result.answer Cause.Shelf → result.out ≡ out }
+    ensures untimed { AllPass is_untimed result.journal.items }
+    ensures noted { IsErrOf result.answer Cause.Shelf ⊎ (H.failed shelf.new ≡ H.failed shelf.old) }
     ensures same { H.files shelf.new ≡ H.files shelf.old }
 {
     let Some(file) = asked_file(words) else {
-        return Err(Cause::Usage);
+        return unbegun(alloc, Cause::Usage, out);
     };
-    let bytes = load(alloc, shelf, file)?;
-    match run_program(bytes.as_slice(), out, journal) {
-        Ok(()) => Ok(()),
-        Err(Cut::Write) => Err(Cause::Write),
-        Err(Cut::Memory) => Err(Cause::Memory),
+    match load(alloc, shelf, file) {
+        Ok(program) => run_program(alloc, &program, out),
+        Err(cause) => unbegun(alloc, cause, out),
     }
 }
 
@@ -195,14 +200,12 @@ pub fn command_one<H: Shelf, S: Source, K: Sink, E: Sink, C: Clock>(
         (E.faults err.old) (E.faults err.new) (E.wants err.old) (E.wants err.new) }
     ensures silent { result.status ≡ 0 → err.new ≡ err.old }
 {
-    let mut out = out;
-    let mut journal = Journal::new(alloc);
-    let answer = run_file(alloc, words, shelf, &mut out, &mut journal);
-    report(err, line(&answer));
+    let ran = run_file(alloc, words, shelf, out);
+    report(err, line(&ran.answer));
     Finished {
-        status: status_number(&answer),
-        out,
+        status: status_number(&ran.answer),
+        out: ran.out,
         clock,
-        journal,
+        journal: ran.journal,
     }
 }

@@ -8,12 +8,14 @@
 
 mod cause;
 mod command;
+mod program;
 mod reader;
 mod running;
 mod words;
 
 pub use command::{Finished, command_one};
-pub use reader::{MOST_TEXT_BYTES, ReadError, one_program, read_program};
+pub use program::read_program;
+pub use reader::{MOST_TEXT_BYTES, ReadError, one_program};
 pub use words::Words;
 
 #[cfg(test)]

@@ -1,3 +1,4 @@
+use crate::reader::read_bytes;
 use crate::{MOST_TEXT_BYTES, ReadError, read_program};
 use std::rt::HostRuntime;
 use std::test::Fail;
@@ -16,7 +17,7 @@ fn programs_are_read(rt: HostRuntime) -> Result<(), Fail> {
             b"\x00\xff",
         ),
     ] {
-        assert!(rt; read_program(rt.alloc(), text)?.as_slice() == bytes);
+        assert!(rt; read_bytes(rt.alloc(), text)?.as_slice() == bytes);
     }
     Ok(())
 }
@@ -54,7 +55,7 @@ fn other_texts_are_refused(rt: HostRuntime) {
 fn the_longest_text_is_read(rt: HostRuntime) -> Result<(), Fail> {
     let mut text = Vec::from_slice(rt.alloc(), b"main(){}")?;
     text.resize(MOST_TEXT_BYTES, b' ')?;
-    assert_eq!(rt; read_program(rt.alloc(), text.as_slice())?.len(), 0);
+    assert_eq!(rt; read_bytes(rt.alloc(), text.as_slice())?.len(), 0);
     text.push(b' ')?;
     assert!(rt;
         matches!(

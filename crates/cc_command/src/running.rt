@@ -1,71 +1,69 @@
-ghost use Rattle.std.specs.Prelude.{◌≡◌, ◌≤◌, ◌⊎◌, [], ◌∷◌, ◌++◌, OnOk, OnErr, IfErr, IsErrOf};
+ghost use Rattle.std.specs.Prelude.{◌≡◌, ◌⊎◌, ℕ, List, [], Err, OnOk, IfErr, IsErrOf};
 ghost use Rattle.std.specs.List.{AllPass};
+ghost use Rattle.cc_command.specs.Form.{IsProgram};
 ghost use Rattle.cc_command.specs.Outcomes.{RunsToItsEnd, StopsAtTheSink, StopsForMemory};
-ghost use Rattle.cc_command.specs.Printing.{asked, is_untimed};
-ghost use Rattle.cc_rules.specs.declared.event.Word.{Word};
+ghost use Rattle.cc_command.specs.Program.{program_of};
+ghost use Rattle.cc_command.specs.Statuses.{answer_of};
+ghost use Rattle.cc_pool.specs.Driven.{is_untimed};
 ghost use Rattle.cc_world.specs.Causes.{Rose};
-ghost use Rattle.cc_world.specs.Told.{GrewBy};
 
-use cc_base::{Bytes, Pid};
-use cc_rules::{Event, Journal, Word};
-use cc_world::{IoFault, Sink, write_all};
+use crate::cause::Cause;
+use cc_base::Bytes;
+use cc_pool::{Stop, drive};
+use cc_rules::Journal;
+use cc_source::Early;
+use cc_world::Sink;
+use std::alloc::Global;
+use std::sync::Arc;
 
-/// The process that runs `main`.
-const MAIN: Pid = Pid(0);
+/// The most turns that a run takes.
+const MOST_TURNS: u32 = 1_000_000;
 
-/// Why a run was cut short.
-#[derive(Clone, Copy, Debug, Drop, PartialEq, Eq)]
-pub enum Cut {
-    /// The sink failed.
-    Write,
-    /// Memory was wanting.
-    Memory,
+/// How a run was answered, with the sink that it was given and its journal.
+#[derive(Drop)]
+pub(crate) struct Ran<K> {
+    pub(crate) answer: Result<(), Cause>,
+    pub(crate) out: K,
+    pub(crate) journal: Journal,
 }
 
-/// `main` asks so.
-fn ask(journal: &mut Journal, word: Word) -> Result<(), Cut>
-    ensures done { OnOk result (journal.new.items ≡ journal.old.items ++ asked word ∷ []) }
-    ensures same { OnErr result (journal.new.items ≡ journal.old.items) }
-    ensures only { IfErr result (λ cut. cut ≡ Cut.Memory) }
+/// What is left where no run began.
+pub(crate) fn unbegun<K>(alloc: Global, cause: Cause, out: K) -> Ran<K>
+    ensures answer { result.answer ≡ Err cause }
+    ensures out { result.out ≡ out }
+    ensures journal { result.journal.items ≡ [] }
 {
-    if journal.reserve(1).is_err() {
-        return Err(Cut::Memory);
-    }
-    journal.add(Event::Ask { pid: MAIN, word });
-    Ok(())
-}
-
-/// `main` asks to print a byte, and the byte is put into the sink.
-fn print_byte<K: Sink>(byte: u8, out: &mut K, journal: &mut Journal) -> Result<(), Cut>
-    ensures done { OnOk result (GrewBy (K.held out.old) (K.held out.new) (byte ∷ []) × (journal.new.items ≡ journal.old.items ++ asked Word.Print ∷ [])) }
-    ensures same { OnErr result (K.held out.new ≡ K.held out.old) }
-    ensures later { K.faults out.old ≤ K.faults out.new }
-    ensures write { IsErrOf result Cut.Write → Rose (K.faults out.old) (K.faults out.new) × (journal.new.items ≡ journal.old.items ++ asked Word.Print ∷ []) }
-    ensures memory { IsErrOf result Cut.Memory → (journal.new.items ≡ journal.old.items) ⊎ (journal.new.items ≡ journal.old.items ++ asked Word.Print ∷ []) }
-{
-    ask(journal, Word::Print)?;
-    match write_all(out, &[byte]) {
-        Ok(()) => Ok(()),
-        Err(IoFault::Failed) => Err(Cut::Write),
-        Err(IoFault::Memory) => Err(Cut::Memory),
+    Ran {
+        answer: Err(cause),
+        out,
+        journal: Journal::new(alloc),
     }
 }
 
-/// Runs the program that prints these bytes, from an empty journal.
-pub(crate) fn run_program<K: Sink>(
-    bytes: &[u8],
-    out: &mut K,
-    journal: &mut Journal,
-) -> Result<(), Cut>
-    requires { journal.old.items ≡ [] }
-    ensures done { OnOk result (RunsToItsEnd bytes.now journal.new.items (K.held out.old) (K.held out.new)) }
-    ensures write { IsErrOf result Cut.Write → StopsAtTheSink bytes.now journal.new.items (K.held out.old) (K.held out.new) }
-    ensures cause { IsErrOf result Cut.Write → Rose (K.faults out.old) (K.faults out.new) }
-    ensures memory { IsErrOf result Cut.Memory → StopsForMemory bytes.now journal.new.items (K.held out.old) (K.held out.new) }
-    ensures untimed { AllPass is_untimed journal.new.items }
+/// How a run is answered that stopped so.
+fn answer(stop: Stop) -> Result<(), Cause>
+    ensures { result ≡ answer_of stop }
 {
-    for byte in bytes {
-        print_byte(*byte, out, journal)?;
+    match stop {
+        Stop::Over => Ok(()),
+        Stop::Write => Err(Cause::Write),
+        Stop::Memory => Err(Cause::Memory),
     }
-    ask(journal, Word::Done)
+}
+
+/// Runs the program of a text.
+pub(crate) fn run_program<K: Sink>(alloc: Global, program: &Arc<Early>, out: K) -> Ran<K>
+    ensures done { OnOk result.answer ((text bytes : List ℕ) → IsProgram text bytes → program.now.value ≡ program_of bytes → RunsToItsEnd bytes result.journal.items (K.held out) (K.held result.out)) }
+    ensures write { IsErrOf result.answer Cause.Write → (text bytes : List ℕ) → IsProgram text bytes → program.now.value ≡ program_of bytes → StopsAtTheSink bytes result.journal.items (K.held out) (K.held result.out) }
+    ensures cause { IsErrOf result.answer Cause.Write → Rose (K.faults out) (K.faults result.out) }
+    ensures memory { IsErrOf result.answer Cause.Memory → (text bytes : List ℕ) → IsProgram text bytes → program.now.value ≡ program_of bytes → StopsForMemory bytes result.journal.items (K.held out) (K.held result.out) }
+    ensures only { IfErr result.answer (λ cause. (cause ≡ Cause.Write) ⊎ (cause ≡ Cause.Memory)) }
+    ensures untimed { AllPass is_untimed result.journal.items }
+{
+    let ran = drive(alloc, program, Bytes::new(alloc), MOST_TURNS, out);
+    Ran {
+        answer: answer(ran.stop),
+        out: ran.out,
+        journal: ran.journal,
+    }
 }

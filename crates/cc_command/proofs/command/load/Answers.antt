@@ -1,5 +1,7 @@
-use Rattle.std.proofs.Common.{rules}
+use Rattle.std.proofs.Common.{rules, subst, sym}
 use Rattle.cc_world.proofs.Counts.{failed_if}
+use Rattle.cc_command.proofs.Ends.{if_ok}
+use Rattle.cc_command.specs.Program.{IsText}
 use Rattle.cc_command.proofs.Texts.{holds_program, holds_no_program}
 use Rattle.cc_command.proofs.command.load.Goals as goal
 
@@ -8,7 +10,11 @@ returns-in-Err-Failed-clause-shelf g c = λ _. failed_if _ _ _ _ c.read.result c
 
 pub returns-in-Ok-read_program-clause-program : goal.returns-in-Ok-read_program-clause-program
 returns-in-Ok-read_program-clause-program g c =
-    holds_program _ _ _ _ c.in-Ok.ensures.bytes (rw c.as_slice.ensures at c.in-Ok-read_program.ensures.program)
+    if_ok _ _ c.shared.result
+    (λ program same.
+    holds_program _ _ _ program.value c.in-Ok.ensures.bytes
+    (subst (IsText c.in-Ok.text) (sym same) (rw c.as_slice.ensures at c.in-Ok-read_program.ensures.program)))
+    c.shared.ensures.program
 
 pub returns-in-Err-Unbuilt-clause-text : goal.returns-in-Err-Unbuilt-clause-text
 returns-in-Err-Unbuilt-clause-text g c =

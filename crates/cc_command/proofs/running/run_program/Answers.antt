@@ -1,28 +1,38 @@
-use Rattle.std.proofs.Common.{rules, refl, inl, inr}
-use Rattle.cc_command.proofs.Ends.{on_ok}
-use Rattle.cc_command.proofs.Prints.{all_put, cut_after, cut_before, none_put, one_put, stopped_at}
+use Rattle.std.proofs.Common.{◌≡◌, ◌∙◌, ap, ℕ, List, [], false}
+use Rattle.cc_command.proofs.Finishes.{finishes, is-memory, is-write, on-over, same-meaning, stops, wants}
+use Rattle.cc_source.specs.Early.{early_meaning}
+use Rattle.cc_source.specs.Lawful.{early_served}
 use Rattle.cc_command.proofs.running.run_program.Goals as goal
 
-pub loop-byte-init : goal.loop-byte-init
-loop-byte-init g c = none_put _ _ _ _ c.requires
-
-pub returns-in_err-print_byte-clause-write : goal.returns-in_err-print_byte-clause-write
-returns-in_err-print_byte-clause-write g c =
-    λ is. stopped_at _ c.loop-byte.byte-index _ _ _ _ _ _ _ c.loop-byte-test.true (c.in_err-print_byte.ensures.write (search rules)).1 c.in_err-print_byte.ensures.same c.loop-byte.invariant
-
-pub returns-in_err-print_byte-clause-memory : goal.returns-in_err-print_byte-clause-memory
-returns-in_err-print_byte-clause-memory g c =
-    λ is. elim (c.in_err-print_byte.ensures.memory (search rules)) [
-      | inl before ↦ cut_before _ c.loop-byte.byte-index _ _ _ _ _ _ _ before c.in_err-print_byte.ensures.same c.loop-byte.invariant
-      | inr after ↦ cut_after _ c.loop-byte.byte-index _ _ _ _ _ _ _ c.loop-byte-test.true after c.in_err-print_byte.ensures.same c.loop-byte.invariant
-    ]
-
-pub loop-byte-preserved : goal.loop-byte-preserved
-loop-byte-preserved g c =
-    one_put _ c.loop-byte.byte-index _ _ _ _ _ _ _ _ _ c.loop-byte-test.true refl c.in_ok-print_byte.ensures.done.1 c.in_ok-print_byte.ensures.done.0 c.print_byte.ensures.later c.loop-byte.invariant
+pub drive-ran-requires : goal.drive-ran-requires
+drive-ran-requires g c = record { served = early_served c.args.program.now.value }
 
 pub returns-clause-done : goal.returns-clause-done
 returns-clause-done g c =
-    on_ok c.ask.result
-    (λ added. all_put _ c.loop-byte.byte-index _ _ _ _ _ _ c.loop-byte-test.false (search rules) added c.loop-byte.invariant)
-    c.ask.ensures.done
+    rw c.answer.ensures
+    (on-over c.drive-ran.result.stop _
+    (λ over text bytes program e.
+    let same = ap early_meaning e ∙ same-meaning text bytes program in
+    let run = rw (same, c.new.ensures) at c.drive-ran.ensures.run in
+    let end = rw (same, c.new.ensures) at (c.drive-ran.ensures.over over) in
+    finishes text bytes program _ _ _ _ _ run c.drive-ran.ensures.untimed end))
+
+pub returns-clause-write : goal.returns-clause-write
+returns-clause-write g c =
+    rw c.answer.ensures
+    (λ is text bytes program e.
+    let same = ap early_meaning e ∙ same-meaning text bytes program in
+    let cut = is-write c.drive-ran.result.stop is in
+    let run = rw (same, c.new.ensures) at c.drive-ran.ensures.run in
+    let part = rw (same, c.new.ensures) at (c.drive-ran.ensures.write cut) in
+    let incomplete = rw (same, c.new.ensures) at (c.drive-ran.ensures.incomplete cut) in
+    stops text bytes program _ _ _ _ _ run incomplete part)
+
+pub returns-clause-memory : goal.returns-clause-memory
+returns-clause-memory g c =
+    rw c.answer.ensures
+    (λ is text bytes program e.
+    let same = ap early_meaning e ∙ same-meaning text bytes program in
+    let run = rw (same, c.new.ensures) at c.drive-ran.ensures.run in
+    let part = rw (same, c.new.ensures) at (c.drive-ran.ensures.memory (is-memory c.drive-ran.result.stop is)) in
+    wants text bytes program _ _ _ _ _ run part)

@@ -1,0 +1,32 @@
+-- The program of a text of `putchar` statements.
+use Rattle.std.specs.Prelude.{◌≡◌, ℕ, pos, List, [], ◌∷◌, map, None}
+use Rattle.cc_base.specs.Meaning.{Meaning}
+use Rattle.cc_command.specs.Form.{IsProgram}
+use Rattle.cc_source.specs.Parts.{Parts}
+use Rattle.cc_source.specs.Programs.{meaning}
+use Rattle.cc_source.specs.declared.tree.DataType.{Int}
+use Rattle.cc_source.specs.declared.tree.Expression.{Constant, PutChar}
+use Rattle.cc_source.specs.declared.tree.Statement.{Statement, Evaluate}
+
+-- `putchar(byte);`
+abbrev pub puts : ℕ → Statement
+puts byte = Evaluate (PutChar (Constant (pos byte) Int))
+
+-- `main` puts one byte after the other, and nothing else is there
+abbrev pub program_of : List ℕ → Parts
+program_of bytes =
+    record {
+      kinds = record { parameters = 0; variables = []; body = map puts bytes } ∷ [];
+      functions = [];
+      transactions = [];
+      sites = [];
+      formats = [];
+    }
+
+-- what it means
+abbrev pub means : List ℕ → Meaning
+means bytes = meaning (program_of bytes)
+
+-- the text is that of this program
+abbrev pub IsText : List ℕ → Parts → Type 0
+IsText text program = (bytes : List ℕ) × IsProgram text bytes × (program ≡ program_of bytes)

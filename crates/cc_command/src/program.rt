@@ -1,0 +1,87 @@
+ghost use Rattle.std.specs.Prelude.{◌≡◌, ◌≤◌, ◌∷◌, [], ℕ, List, All, pos, IfOk, IsErrOf};
+ghost use Rattle.cc_source.specs.declared.tree.DataType.{Int};
+ghost use Rattle.cc_source.specs.declared.tree.Expression.{Constant};
+ghost use Rattle.cc_source.specs.Checked.{parts_of};
+ghost use Rattle.cc_command.specs.Form.{IsProgram};
+ghost use Rattle.cc_command.specs.Program.{IsText, program_of, puts};
+
+use crate::reader::{ReadError, read_bytes};
+use cc_base::Memory;
+use cc_source::{DataType, Early, Expression, Kind, Program, ProgramParts, Statement};
+use sqlite_items::{Boxed, Items};
+use std::alloc::Global;
+
+/// A byte as a number of type `int`.
+fn number(byte: u8) -> Expression
+    ensures { result ≡ Constant (pos byte) Int }
+{
+    Expression::Constant {
+        value: i64::from(byte),
+        data_type: DataType::Int,
+    }
+}
+
+/// `putchar(byte);`
+fn put_statement(alloc: Global, byte: u8) -> Result<Statement, Memory>
+    ensures { IfOk result (λ statement. statement ≡ puts byte) }
+{
+    let value = Boxed::new(alloc, number(byte))?;
+    Ok(Statement::Evaluate {
+        expression: Expression::PutChar { value },
+    })
+}
+
+/// `main`, which puts these bytes one after the other.
+fn main_kind(alloc: Global, bytes: &[u8]) -> Result<Kind, Memory>
+    ensures { IfOk result (λ kind. kind ∷ [] ≡ (program_of bytes.now).kinds) }
+{
+    let mut body = Items::new(alloc);
+    for byte in bytes {
+        body.push(put_statement(alloc, *byte)?)?;
+    }
+    Ok(Kind {
+        parameters: 0,
+        variables: Items::new(alloc),
+        body,
+    })
+}
+
+/// The parts of the program that puts these bytes one after the other.
+fn parts(alloc: Global, bytes: &[u8]) -> Result<ProgramParts, Memory>
+    ensures { IfOk result (λ parts. parts_of parts ≡ program_of bytes.now) }
+{
+    let mut kinds = Items::new(alloc);
+    kinds.push(main_kind(alloc, bytes)?)?;
+    Ok(ProgramParts {
+        kinds,
+        functions: Items::new(alloc),
+        transactions: Items::new(alloc),
+        sites: Items::new(alloc),
+        formats: Items::new(alloc),
+    })
+}
+
+/// The program that puts these bytes one after the other.
+fn program(alloc: Global, bytes: &[u8]) -> Result<Early, Memory>
+    requires { All (λ byte. byte ≤ 255) bytes.now }
+    ensures { IfOk result (λ early. early ≡ program_of bytes.now) }
+{
+    let program = Program::of(parts(alloc, bytes)?);
+    match Early::new(program) {
+        Some(early) => Ok(early),
+        None => unreachable!(),
+    }
+}
+
+/// The program of a text. `Unbuilt` where the text is no program, as where it has more than [`MOST_TEXT_BYTES`].
+///
+/// [`MOST_TEXT_BYTES`]: crate::MOST_TEXT_BYTES
+pub fn read_program(alloc: Global, text: &[u8]) -> Result<Early, ReadError>
+    ensures program { IfOk result (λ program. IsText text.now program) }
+    ensures unbuilt { IsErrOf result ReadError.Unbuilt → (bytes : List ℕ) → ¬ IsProgram text.now bytes }
+{
+    match read_bytes(alloc, text) {
+        Ok(bytes) => program(alloc, bytes.as_slice()).map_err(|_| ReadError::Memory),
+        Err(error) => Err(error),
+    }
+}

@@ -1,0 +1,138 @@
+-- What a program means.
+use Rattle.std.specs.Prelude.{ℕ, zero, suc, ◌+◌, ℤ, List, [], ◌∷◌, ◌++◌, length, map, take, drop, get_or, set, Option, Some, None, ◌&&◌, nat_eq, nat_lt, if◌then◌else◌, slice_get}
+use Rattle.cc_base.specs.Meaning.{Meaning}
+use Rattle.cc_base.specs.Outcome.{Outcome, Through, Asked, Eval, ◌>>=◌, ◌>>◌, Left, pure, stop, inside, tick, ticks_granted, asked_by}
+use Rattle.cc_base.specs.declared.names.FaultKind.TheVariants.{Cells, Depth}
+use Rattle.cc_base.specs.declared.names.Shape.{Shape}
+use Rattle.cc_base.specs.declared.request.Grant.{Grant}
+use Rattle.cc_base.specs.declared.request.Request.{Request}
+use Rattle.cc_base.specs.declared.request.Request.TheVariants.{Done, Fault}
+use Rattle.cc_source.specs.Lists.{exec_all}
+use Rattle.cc_source.specs.Meaning.{Caller, Scope, condition_of, given, parameters_at, set_from}
+use Rattle.cc_source.specs.Numbers.{at_zero}
+use Rattle.cc_source.specs.Parts.{Parts}
+use Rattle.cc_source.specs.Values.{cells, cells_all, number, unflats, zero_of}
+use Rattle.cc_source.specs.declared.flow.Flow.{Flow}
+use Rattle.cc_source.specs.declared.flow.Flow.TheVariants.{Returned}
+use Rattle.cc_source.specs.declared.tree.DataType.{DataType, Void, Long}
+use Rattle.cc_source.specs.declared.tree.Function.{Function}
+use Rattle.cc_source.specs.declared.tree.Kind.{Kind}
+use Rattle.cc_source.specs.declared.tree.Site.{Site}
+use Rattle.cc_source.specs.declared.tree.Transaction.{Transaction}
+use Rattle.cc_source.specs.declared.value.Value.{Value}
+
+abbrev pub zero_all : List DataType → List Value
+zero_all [] = []
+zero_all (t ∷ ts) = zero_of t ∷ zero_all ts
+
+-- the most function calls that are active at once, and the most cells of active variables
+abbrev pub most_calls : ℕ
+most_calls = 1000
+
+abbrev pub most_cells : ℕ
+most_cells = 65536
+
+abbrev pub returned : DataType → Flow → Value
+returned t (Returned v) = v
+returned t _ = zero_of t
+
+-- the entry tick, the body and the exit tick
+abbrev pub ticked : Parts → Caller → Function → Eval Scope Value
+ticked p call f = do
+  tick
+  flow ← exec_all p call f.body
+  tick
+  pure (returned f.result flow)
+
+-- a call of a function where variables of this many cells are active
+abbrev pub entered : Parts → (ℕ → Caller) → ℕ → Option Function → List Value → Eval Scope Value
+entered p call active None args = stop (Fault Depth)
+entered p call active (Some f) args =
+    if nat_lt most_cells (active + cells_all f.variables)
+    then stop (Fault Cells)
+    else inside (args ++ zero_all (drop f.parameters f.variables)) (ticked p (call (active + cells_all f.variables)) f)
+
+-- a call, where no more than d calls may be active with it
+unfoldable pub call : Parts → ℕ → ℕ → Caller
+call p zero active f args = stop (Fault Depth)
+call p (suc d) active f args = entered p (call p d) active (slice_get p.functions f) args
+
+-- the variables of a kind as a process begins
+abbrev pub variables_at_start : Kind → List ℤ → Scope
+variables_at_start k args = unflats (take k.parameters k.variables) args ++ zero_all (drop k.parameters k.variables)
+
+-- what is left once the first grant has let the process begin
+abbrev pub left_at_start : List Grant → Left
+left_at_start grants = record { grants = drop 1 grants; ticks = ticks_granted }
+
+-- what comes of the body of a process
+abbrev pub body : Parts → Option Kind → List ℤ → List Grant → Outcome Scope Flow
+body p None args grants = Asked Done
+body p (Some k) args grants =
+    if nat_lt most_cells (cells_all k.variables)
+    then Asked (Fault Cells)
+    else exec_all p (call p most_calls (cells_all k.variables)) k.body (variables_at_start k args) (left_at_start grants)
+
+-- what a process asks after exactly these grants
+unfoldable pub act : Parts → ℕ → List ℤ → List Grant → Request
+act p kind args grants = asked_by Done (body p (slice_get p.kinds kind) args grants)
+
+abbrev pub shape_of : Transaction → Shape
+shape_of t = record { is_async = t.is_async; args = cells_all t.parameters; value = cells t.value }
+
+abbrev pub parameter_cells : Kind → ℕ
+parameter_cells k = cells_all (take k.parameters k.variables)
+
+-- no call of a function, no tick and no grant: what a pure expression has
+abbrev pub no_call : Caller
+no_call f args = stop (Fault Depth)
+
+abbrev pub nothing_left : Left
+nothing_left = record { grants = []; ticks = 0 }
+
+abbrev pub variables_of : Option Kind → List DataType
+variables_of None = []
+variables_of (Some k) = k.variables
+
+-- variables of these numbers are set, one after the other
+abbrev pub set_each : List ℕ → List Value → Scope → Scope
+set_each [] vs scope = scope
+set_each (x ∷ xs) [] scope = scope
+set_each (x ∷ xs) (v ∷ vs) scope = set_each xs vs (set scope x v)
+
+abbrev pub types_at : List DataType → List ℕ → List DataType
+types_at ts xs = map (λ x. get_or ts x Void) xs
+
+abbrev pub rank_of : Outcome Scope Value → Option ℤ
+rank_of (Through v scope left) = Some (number v)
+rank_of (Asked request) = None
+
+-- the variables that the clauses of an accept see: the call's arguments and the environment
+abbrev pub variables_seen : Parts → Site → List ℤ → List ℤ → Scope
+variables_seen p s env args =
+    let types = variables_of (slice_get p.kinds s.kind) in
+    set_from s.first (unflats (parameters_at (slice_get p.transactions s.transaction)) args)
+    (set_each s.environment (unflats (types_at types s.environment) env) (zero_all types))
+
+-- the rank by the clauses of an accept: none where `suchthat` is 0 or one of them faults, and 0 without `by`
+abbrev pub clause_rank : Parts → Site → Scope → Option ℤ
+clause_rank p s scope =
+    rank_of
+    ((do
+      such ← condition_of p no_call s.such_that
+      at_zero such (stop Done) (given p no_call s.least_by Long)) scope nothing_left)
+
+abbrev pub site_rank : Parts → Option Site → List ℤ → List ℤ → Option ℤ
+site_rank p None env args = None
+site_rank p (Some s) env args =
+    if nat_eq (length args) (cells_all (parameters_at (slice_get p.transactions s.transaction)))
+    && nat_eq (length env) (cells_all (types_at (variables_of (slice_get p.kinds s.kind)) s.environment))
+    then clause_rank p s (variables_seen p s env args)
+    else None
+
+-- the rank of a call with these arguments at an accept site in this environment
+unfoldable pub fit : Parts → ℕ → List ℤ → List ℤ → Option ℤ
+fit p site env args = site_rank p (slice_get p.sites site) env args
+
+abbrev pub meaning : Parts → Meaning
+meaning p = record { kinds = map parameter_cells p.kinds; shapes = map shape_of p.transactions; act = act p; fit = fit p }

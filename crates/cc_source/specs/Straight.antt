@@ -1,0 +1,94 @@
+-- Straight phrases and programs: no arithmetic, no branches, no loops, no functions, and no clauses of an accept.
+use Rattle.std.specs.List.{list_all}
+use Rattle.std.specs.Prelude.{Bool, true, false, ◌&&◌, List, [], ◌∷◌, Option, Some, None}
+use Rattle.cc_source.specs.Numbers.{is_int}
+use Rattle.cc_source.specs.Parts.{Parts}
+use Rattle.cc_source.specs.Phrases.{parenthesized, assign, put_char}
+use Rattle.cc_source.specs.declared.tree.Argument.{Argument}
+use Rattle.cc_source.specs.declared.tree.DataType.{DataType, Void, Int, Process}
+use Rattle.cc_source.specs.declared.tree.Expression.{Expression, Constant, Read, CreateProcess', Transact', end_of-Expression, more_of-Expression, Row_of-Argument, end_of-Argument, more_of-Argument}
+use Rattle.cc_source.specs.declared.tree.Kind.{Kind}
+use Rattle.cc_source.specs.declared.tree.Location.{Location, Variable}
+use Rattle.cc_source.specs.declared.tree.Site.{Site}
+use Rattle.cc_source.specs.declared.tree.Statement.{Statement, Empty, Evaluate, Declare, Block', TransactionReturn, Accept', Row_of-Statement, end_of-Statement, more_of-Statement}
+use Rattle.cc_source.specs.declared.tree.Transaction.{Transaction}
+
+-- `int` and process types
+unfoldable pub is_straight_type : DataType → Bool
+is_straight_type Int = true
+is_straight_type (Process kind) = true
+is_straight_type _ = false
+
+-- the value of a transaction may also be `void`
+unfoldable pub is_straight_value : DataType → Bool
+is_straight_value Void = true
+is_straight_value Int = true
+is_straight_value (Process kind) = true
+is_straight_value _ = false
+
+unfoldable pub is_straight_place : Location → Bool
+is_straight_place (Variable x t) = is_straight_type t
+is_straight_place _ = false
+
+unfoldable mutual
+  pub is_straight : Expression → Bool
+  is_straight (Constant n t) = is_int t
+  is_straight (Read l) = is_straight_place l
+  is_straight (parenthesized e t) = is_straight e && is_straight_value t
+  is_straight (assign l e) = is_straight_place l && is_straight e
+  is_straight (CreateProcess' k _ args) = are_straight_row args
+  is_straight (Transact' _ (more_of-Expression e end_of-Expression) trans _ args t) =
+      is_straight e && are_straight_row args && is_straight_value t
+  is_straight (put_char e) = is_straight e
+  is_straight _ = false
+
+  pub are_straight_row : {n : _} → Row_of-Argument n → Bool
+  are_straight_row end_of-Argument = true
+  are_straight_row (more_of-Argument e t rest) = (is_straight e && is_straight_type t) && are_straight_row rest
+
+abbrev pub is_straight_argument : Argument → Bool
+is_straight_argument a = is_straight a.value && is_straight_type a.data_type
+
+abbrev pub is_straight_option : Option Expression → Bool
+is_straight_option None = true
+is_straight_option (Some e) = is_straight e
+
+unfoldable mutual
+  pub is_straight_statement : Statement → Bool
+  is_straight_statement Empty = true
+  is_straight_statement (Evaluate e) = is_straight e
+  is_straight_statement (Declare x t) = is_straight_type t
+  is_straight_statement (Block' _ all) = are_straight_statements all
+  is_straight_statement (Accept' site _ block) = are_straight_statements block
+  is_straight_statement (TransactionReturn e t) = is_straight_option e && is_straight_value t
+  is_straight_statement _ = false
+
+  pub are_straight_statements : {n : _} → Row_of-Statement n → Bool
+  are_straight_statements end_of-Statement = true
+  are_straight_statements (more_of-Statement s rest) = is_straight_statement s && are_straight_statements rest
+
+abbrev pub is_straight_kind : Kind → Bool
+is_straight_kind k = list_all is_straight_type k.variables && list_all is_straight_statement k.body
+
+abbrev pub is_straight_transaction : Transaction → Bool
+is_straight_transaction t = list_all is_straight_type t.parameters && is_straight_value t.value
+
+abbrev pub is_nothing : Option Expression → Bool
+is_nothing None = true
+is_nothing (Some e) = false
+
+abbrev pub is_empty : {X : Type 0} → List X → Bool
+is_empty [] = true
+is_empty (x ∷ xs) = false
+
+-- no clauses, and so no environment
+abbrev pub is_straight_site : Site → Bool
+is_straight_site s = is_nothing s.such_that && is_nothing s.least_by && is_empty s.environment
+
+-- no function but `main`, which is a kind
+abbrev pub is_straight_program : Parts → Bool
+is_straight_program p =
+    list_all is_straight_kind p.kinds
+    && list_all is_straight_transaction p.transactions
+    && list_all is_straight_site p.sites
+    && is_empty p.functions
