@@ -1,11 +1,12 @@
-ghost use Rattle.std.specs.Prelude.{◌≡◌, ◌≤◌, ◌++◌, ◌⊎◌, [], ◌∷◌, false, true, IfOk, IfNone, IfSome, OnErr, OnOk, Some, set, slice_get};
+ghost use Rattle.std.specs.Prelude.{◌≡◌, ◌≢◌, ◌≤◌, ℕ, ◌++◌, ◌⊎◌, [], ◌∷◌, false, true, IfOk, IfNone, IfSome, OnErr, OnOk, Some, set, slice_get};
 ghost use Rattle.cc_kernel.specs.Faults.{faults_from};
-ghost use Rattle.cc_kernel.specs.Held.{AllOut, AsksNow, IsOutWith, IsOver, IsPreparedFor, IsReadyWith, IsServed, Moment, Nothing, StepsOn};
+ghost use Rattle.cc_kernel.specs.Held.{AllOut, AsksNow, IsOutWith, IsOver, IsPreparedFor, IsReadyWith, IsServed, Moment, Nothing, OthersStay, OutsRun, StepsOn};
 ghost use Rattle.cc_kernel.specs.Seats.{SameOuts, is_out_in};
 ghost use Rattle.cc_kernel.specs.Standing.{standing_of};
 ghost use Rattle.cc_rules.specs.Events.{request_at, word_of};
-ghost use Rattle.cc_rules.specs.Runs.{IsRun, IsSettledRun, bytes_of, state_after, turns};
-ghost use Rattle.cc_rules.specs.declared.event.Standing.TheVariants.{Going};
+ghost use Rattle.cc_rules.specs.Runs.{IsRun, IsSettledRun, bytes_of, printed, state_after, turns};
+ghost use Rattle.cc_rules.specs.declared.event.Standing.TheVariants.{Going, Idle};
+ghost use Rattle.cc_rules.specs.Ends.{has_running};
 
 use crate::asks::MOST_PROCESSES;
 use crate::calls::{Pending, Served};
@@ -124,6 +125,8 @@ impl<B: Behave> Kernel<B> {
         ensures outs { SameOuts self.new.outs (set self.old.outs pid.0 false) }
         ensures prepared { self.new.prepared ≡ Nothing }
         ensures bytes { result ≡ bytes_of request }
+        ensures printed { printed (B.means self.new.code) self.new.input self.new.journal ≡ printed (B.means self.old.code) self.old.input self.old.journal ++ bytes_of request }
+        ensures others { OthersStay (B.means self.new.code) self.new.input self.old.journal self.new.journal self.old.outs pid }
     {
         let word = word(&request);
         let need = mem::replace(&mut self.need, Need::Nothing);
@@ -142,7 +145,8 @@ impl<B: Behave> Kernel<B> {
         bytes
     }
 
-    /// Takes a process out that is ready, with the grant that it is still to be given.
+    /// Takes a process out that is ready, with the grant that it is still to be given. None exactly where each process that
+    /// is running is out, or the run goes no further.
     pub fn pick(&mut self) -> Option<(Pid, B::Proc, Grant)>
         ensures none { IfNone result (AllOut (B.means self.old.code) self.old.input self.old.journal self.old.outs ⊎ IsOver (standing_of (B.means self.old.code) self.old.input self.old.journal self.old.turns)) }
         ensures same { IfNone result (self.new ≡ self.old) }
@@ -150,6 +154,7 @@ impl<B: Behave> Kernel<B> {
         ensures ready { IfSome result (λ r. IsReadyWith (B.means self.old.code) (B.at self.old.code) self.old.input self.old.journal r.0.0 r.1 r.2) }
         ensures was_in { IfSome result (λ r. is_out_in self.old.outs r.0.0 ≡ false) }
         ensures out { IfSome result (λ r. self.new ≡ record self.old { outs = set self.old.outs r.0.0 true }) }
+        ensures is_out { IfSome result (λ r. is_out_in self.new.outs r.0.0 ≡ true) }
     {
         if self.spent == self.turns {
             return None;
@@ -163,9 +168,11 @@ impl<B: Behave> Kernel<B> {
         }
     }
 
-    /// How the run stands.
+    /// How the run stands. It is never idle, since nothing that is served has a deadline.
     pub fn state(&self) -> Standing
-        ensures { result ≡ standing_of (B.means self.now.code) self.now.input self.now.journal self.now.turns }
+        ensures stands { result ≡ standing_of (B.means self.now.code) self.now.input self.now.journal self.now.turns }
+        ensures never_idle { (until : ℕ) → result ≢ Idle until }
+        ensures going { result ≡ Going → has_running (state_after (B.means self.now.code) self.now.input self.now.journal) ≡ true }
     {
         if self.kept.seats.all_over() {
             return Standing::Ended {
@@ -181,11 +188,13 @@ impl<B: Behave> Kernel<B> {
         Standing::Going
     }
 
+    /// The events so far: a settled run of at most the allowed turns, in which each process that is out is running.
     pub fn journal(&self) -> &Journal
         ensures items { result.now.items ≡ self.now.journal }
         ensures within { turns self.now.journal ≤ self.now.turns }
         ensures runs { IsRun (B.means self.now.code) self.now.input self.now.journal }
         ensures settled { IsSettledRun (B.means self.now.code) self.now.input self.now.journal }
+        ensures outs { OutsRun (B.means self.now.code) self.now.input self.now.journal self.now.outs }
     {
         &self.journal
     }
@@ -193,6 +202,7 @@ impl<B: Behave> Kernel<B> {
     /// The journal, and the processes that were stopped by a fault with their faults, by number.
     pub fn into_journal(self) -> (Journal, Faults)
         ensures journal { result.0.items ≡ self.journal }
+        ensures within { turns self.journal ≤ self.turns }
         ensures runs { IsRun (B.means self.code) self.input self.journal }
         ensures settled { IsSettledRun (B.means self.code) self.input self.journal }
         ensures faults { result.1.items ≡ faults_from 0 (state_after (B.means self.code) self.input self.journal).processes }

@@ -1,8 +1,8 @@
-use Rattle.std.proofs.Common.{inl, ap, false}
+use Rattle.std.proofs.Common.{inl, ap, false, refl}
 use Rattle.std.proofs.lemmas.List.{map-set}
 use Rattle.cc_kernel.proofs.Keeping.{kept-out, kept-ready}
 use Rattle.cc_kernel.proofs.Known.{ready-next}
-use Rattle.cc_kernel.proofs.Outs.{in-at}
+use Rattle.cc_kernel.proofs.Outs.{in-at, out-set}
 use Rattle.cc_kernel.proofs.Seated.{all-out}
 use Rattle.cc_kernel.proofs.Stands.{other-count, running-goes}
 use Rattle.cc_kernel.specs.Held.{prepared_for}
@@ -69,3 +69,8 @@ returns-clause-out g c =
     rw (c.in-Some-take.ensures.place.1, ← c.self.view_is)
     (ap (λ xs. record { code = k.code.value; input = k.kept.input; turns = k.turns; journal = k.journal.items; outs = xs; prepared = prepared_for k.need })
     (map-set is_out k.kept.seats.items c.in-Some.at (with_out (seat_at k.kept.seats.items c.in-Some.at))))
+
+pub returns-clause-is_out : goal.returns-clause-is_out
+returns-clause-is_out g c =
+    rw c.in-Some-take.ensures.place.1
+    (out-set c.self.inside.kept.seats.items c.in-Some.at (with_out (seat_at c.self.inside.kept.seats.items c.in-Some.at)) c.in-Some.ensures.0 refl)

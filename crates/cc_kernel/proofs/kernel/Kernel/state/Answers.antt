@@ -1,11 +1,12 @@
 use Rattle.std.proofs.Common.{sym, ◌∙◌}
-use Rattle.cc_kernel.proofs.Stands.{shape-ended, shape-going, shape-spent, same-count, other-count, shape-stuck, stands-as}
+use Rattle.cc_kernel.proofs.Stands.{shape-ended, shape-going, shape-spent, any-same, same-count, other-count, shape-stuck, stands-as}
 use Rattle.cc_kernel.specs.Kept.{parts}
 use Rattle.cc_rules.specs.Runs.{state_after, turns}
+use Rattle.cc_rules.specs.State.{is_running}
 use Rattle.cc_kernel.proofs.kernel.Kernel.state.Goals as goal
 
-pub returns-then-all_over : goal.returns-then-all_over
-returns-then-all_over g c =
+pub returns-then-all_over-clause-stands : goal.returns-then-all_over-clause-stands
+returns-then-all_over-clause-stands g c =
     let k = c.self.inside in
     let m = g.B.Behave.means c.self.inside.code.value in
     rw (← c.self.view_is)
@@ -14,8 +15,8 @@ returns-then-all_over g c =
     c.self.invariant.state c.self.invariant.quiet
     ∙ shape-ended _ _ _ _ c.some_faulted.result (sym c.all_over.ensures ∙ c.if-all_over.true) (sym c.some_faulted.ensures)))
 
-pub returns-then-not-some_running : goal.returns-then-not-some_running
-returns-then-not-some_running g c =
+pub returns-then-not-some_running-clause-stands : goal.returns-then-not-some_running-clause-stands
+returns-then-not-some_running-clause-stands g c =
     let k = c.self.inside in
     rw (← c.self.view_is)
     (sym
@@ -23,8 +24,8 @@ returns-then-not-some_running g c =
     c.self.invariant.state c.self.invariant.quiet
     ∙ shape-stuck _ _ _ _ (sym c.all_over.ensures ∙ c.if-all_over.false) (sym c.some_running.ensures ∙ c.if-not-some_running.true)))
 
-pub returns-then-self : goal.returns-then-self
-returns-then-self g c =
+pub returns-then-self-clause-stands : goal.returns-then-self-clause-stands
+returns-then-self-clause-stands g c =
     let k = c.self.inside in
     rw (← c.self.view_is)
     (sym
@@ -33,8 +34,8 @@ returns-then-self g c =
     ∙ shape-spent _ _ _ _ (sym c.all_over.ensures ∙ c.if-all_over.false) (sym c.some_running.ensures ∙ c.if-not-some_running.false)
     (same-count k.spent k.turns (turns k.journal.items) c.self.invariant.spent_turns c.if-self.true)))
 
-pub returns : goal.returns
-returns g c =
+pub returns-clause-stands : goal.returns-clause-stands
+returns-clause-stands g c =
     let k = c.self.inside in
     rw (← c.self.view_is)
     (sym
@@ -42,3 +43,12 @@ returns g c =
     c.self.invariant.state c.self.invariant.quiet
     ∙ shape-going _ _ _ _ (sym c.all_over.ensures ∙ c.if-all_over.false) (sym c.some_running.ensures ∙ c.if-not-some_running.false)
     (other-count k.spent k.turns (turns k.journal.items) c.self.invariant.spent_turns c.if-self.false)))
+
+pub returns-clause-going : goal.returns-clause-going
+returns-clause-going g c h =
+    let k = c.self.inside in
+    rw (← c.self.view_is)
+    (any-same (g.B.Behave.at k.code.value) is_running (state_after (g.B.Behave.means k.code.value) k.kept.input k.journal.items).processes k.kept.seats.items
+    c.self.invariant.state.seated
+    ∙ sym c.some_running.ensures
+    ∙ c.if-not-some_running.false)
