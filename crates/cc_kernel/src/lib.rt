@@ -26,3 +26,6 @@ mod served;
 mod settle;
 
 pub use kernel::Kernel;
+
+#[cfg(test)]
+mod tests;
