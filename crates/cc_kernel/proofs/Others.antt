@@ -15,7 +15,7 @@ use Rattle.cc_kernel.specs.Settles.{Settles}
 use Rattle.cc_rules.proofs.GoOn.{after-append, printed-append, turns-append}
 use Rattle.cc_rules.proofs.NextStays.{same-running}
 use Rattle.cc_rules.specs.Effects.{effect}
-use Rattle.cc_rules.specs.Events.{is_legal, next, request_at, word_of}
+use Rattle.cc_rules.specs.Events.{next, request_at, word_of}
 use Rattle.cc_rules.specs.Runs.{IsRun, IsRunFrom, after, bytes_of, event_bytes, is_turn, printed, printed_from, state_after, turns}
 use Rattle.cc_rules.specs.State.{Process, State, first_state, is_running, process_at}
 use Rattle.cc_rules.specs.declared.event.Event.{Event}

@@ -1,7 +1,7 @@
 -- Programs that follow a table, whatever they are granted: the tests have them. They have three kinds of processes without
 -- arguments, and two transactions with one argument cell and one value cell. Each is accepted at a site of its own: of the
 -- first the earliest call, of the second the one whose argument is least.
-use Rattle.std.specs.Prelude.{ℕ, zero, suc, ◌-◌, ℤ, pos, Bool, true, false, cond, nat_eq, if◌then◌else◌, List, [], ◌∷◌, length, slice_get, Option, Some, None}
+use Rattle.std.specs.Prelude.{ℕ, zero, suc, ◌-◌, ℤ, pos, Bool, false, nat_eq, if◌then◌else◌, List, [], ◌∷◌, length, slice_get, Option, Some, None}
 use Rattle.cc_base.specs.Meaning.{Meaning}
 use Rattle.cc_base.specs.declared.alternatives.Alt.TheVariants.{Accept}
 use Rattle.cc_base.specs.declared.names.FaultKind.TheVariants.{CalleeGone}

@@ -2,7 +2,7 @@
 use Rattle.std.proofs.Common.{◌≡◌, ◌≢◌, ℕ, zero, suc, ◌≤◌, ◌<◌, ◌-◌, ℤ, Bool, true, false, List, [], ◌∷◌, length, refl, subst, Option, Some, None}
 use Rattle.std.proofs.Math.Nat.{not-suc-le-zero, not-suc-le_self, zero-lt-suc}
 use Rattle.std.proofs.lemmas.Bool.{leb-true}
-use Rattle.std.specs.Prelude.{All, slice_get, is_some}
+use Rattle.std.specs.Prelude.{All, slice_get}
 use Rattle.std.proofs.lemmas.List.Elements.{All-cons, All-nil}
 use Rattle.std.proofs.lemmas.List.Kept.{AllPairs-cons}
 use Rattle.cc_base.specs.Alternatives.{NumbersRise}
