@@ -101,7 +101,11 @@ impl Behave for Letters {
     }
 
     fn shape(&self, _trans: u32) -> Shape {
-        unreachable!()
+        Shape {
+            is_async: false,
+            args: 1,
+            value: 1,
+        }
     }
 }
 
@@ -131,6 +135,7 @@ fn a_list_of_bytes_is_a_program(rt: HostRuntime) {
         letters.fit(0, &Cells::new(alloc), &Cells::new(alloc)),
         None
     );
+    assert!(rt; letters.shape(0).args == 1);
     let none = Letters {
         bytes: Vec::new(alloc),
     };

@@ -12,3 +12,4 @@ pub mod Requests
 pub mod Replies
 pub mod Keeping
 pub mod Stands
+pub mod Others

@@ -32,11 +32,15 @@ module _ {P : Type 0} where
   in-at (seat ∷ seats) zero b lt e = e
   in-at (seat ∷ seats) (suc i) b lt e = in-at seats i b (omega arith) e
 
-  -- a process that is taken out is out
-  pub taken-out : (seats : List (Seat P)) (i : ℕ) (seat : Seat P) → i < length seats → is_out_in (map is_out (set seats i (with_out seat))) i ≡ true
-  taken-out [] i seat lt = absurd (omega arith)
-  taken-out (x ∷ seats) zero seat lt = refl
-  taken-out (x ∷ seats) (suc i) seat lt = taken-out seats i seat (omega arith)
+  -- a process that goes out is out
+  pub out-set :
+      (seats : List (Seat P)) (i : ℕ) (seat : Seat P)
+      → i < length seats
+      → is_out seat ≡ true
+      → is_out_in (map is_out (set seats i seat)) i ≡ true
+  out-set [] i seat lt e = absurd (omega arith)
+  out-set (first ∷ seats) zero seat lt e = e
+  out-set (first ∷ seats) (suc i) seat lt e = out-set seats i seat (omega arith) e
 
   pub gone_seats-append :
       (seats : List (Seat P)) (first more : List ServedCall)

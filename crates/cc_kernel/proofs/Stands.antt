@@ -62,7 +62,8 @@ module _ {P : Type 0} (located : P → ℕ → List ℤ → List Grant → Type 
   all-same f [] (seat ∷ seats) h = absurd h
   all-same f (q ∷ qs) [] h = absurd h
 
-  any-same :
+  -- a test of standings holds of some process where it does of some seat
+  pub any-same :
       (f : ProcessStanding → Bool) (qs : List Process) (seats : List (Seat P))
       → Seated located qs seats
       → list_any (λ q. f q.standing) qs ≡ list_any (λ seat. f seat.standing) seats

@@ -1,5 +1,5 @@
 -- What a kernel is to its callers.
-use Rattle.std.specs.Prelude.{◌≡◌, ℕ, ◌+◌, ◌≤◌, ◌<◌, ℤ, pos, Bool, true, false, List, [], ◌∷◌, ◌++◌, length, replicate, All}
+use Rattle.std.specs.Prelude.{◌≡◌, ◌≢◌, ℕ, ◌+◌, ◌≤◌, ◌<◌, ℤ, pos, Bool, true, false, List, [], ◌∷◌, ◌++◌, length, replicate, All}
 use Rattle.cc_base.specs.Meaning.{Meaning}
 use Rattle.cc_base.specs.declared.names.Pid.{Pid}
 use Rattle.cc_base.specs.declared.request.Grant.{Grant}
@@ -127,6 +127,19 @@ AllOut m input events outs =
 -- some process is running
 abbrev pub SomeRunning : Meaning → List ℕ → List Event → Type 0
 SomeRunning m input events = (p : ℕ) × (is_running (process_at (state_after m input events).processes p).standing ≡ true)
+
+-- each process that is out is running
+abbrev pub OutsRun : Meaning → List ℕ → List Event → List Bool → Type 0
+OutsRun m input events outs =
+    (p : ℕ) → is_out_in outs p ≡ true → is_running (process_at (state_after m input events).processes p).standing ≡ true
+
+-- whoever is out, but for this process, is after the later events as it was after the earlier ones
+abbrev pub OthersStay : Meaning → List ℕ → List Event → List Event → List Bool → Pid → Type 0
+OthersStay m input before events outs p =
+    (q : Pid)
+    → q.0 ≢ p.0
+    → is_out_in outs q.0 ≡ true
+    → process_at (state_after m input events).processes q.0 ≡ process_at (state_after m input before).processes q.0
 
 -- the run goes no further: it has ended, is stuck, or has no turns left
 abbrev pub IsOver : Standing → Type 0

@@ -6,3 +6,5 @@ pub mod Settles
 pub mod Standing
 pub mod Held
 pub mod Faults
+pub mod Scripted
+pub mod ScriptedLaws

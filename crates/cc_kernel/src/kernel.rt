@@ -1,11 +1,11 @@
 ghost use Rattle.std.specs.Prelude.{◌≡◌, ◌≢◌, ℕ, ◌≤◌, ◌++◌, ◌⊎◌, [], ◌∷◌, false, true, IfOk, IfNone, IfSome, OnErr, OnOk, Some, set, slice_get};
 ghost use Rattle.cc_kernel.specs.Faults.{faults_from};
 ghost use Rattle.cc_base.specs.Served.{IsServed};
-ghost use Rattle.cc_kernel.specs.Held.{AllOut, AsksNow, IsOutWith, IsOver, IsPreparedFor, IsReadyWith, Moment, Nothing, SomeRunning, StepsOn};
+ghost use Rattle.cc_kernel.specs.Held.{AllOut, AsksNow, IsOutWith, IsOver, IsPreparedFor, IsReadyWith, Moment, Nothing, OthersStay, OutsRun, SomeRunning, StepsOn};
 ghost use Rattle.cc_kernel.specs.Seats.{SameOuts, is_out_in};
 ghost use Rattle.cc_kernel.specs.Standing.{standing_of};
 ghost use Rattle.cc_rules.specs.Events.{request_at, word_of};
-ghost use Rattle.cc_rules.specs.Runs.{IsRun, IsSettledRun, bytes_of, state_after, turns};
+ghost use Rattle.cc_rules.specs.Runs.{IsRun, IsSettledRun, bytes_of, printed, state_after, turns};
 ghost use Rattle.cc_rules.specs.declared.event.Standing.TheVariants.{Going, Idle};
 
 use crate::asks::MOST_PROCESSES;
@@ -126,6 +126,8 @@ impl<B: Behave> Kernel<B> {
         ensures outs { SameOuts self.new.outs (set self.old.outs pid.0 false) }
         ensures prepared { self.new.prepared ≡ Nothing }
         ensures bytes { result ≡ bytes_of request }
+        ensures printed { printed (B.means self.new.code) self.new.input self.new.journal ≡ printed (B.means self.old.code) self.old.input self.old.journal ++ bytes_of request }
+        ensures others { OthersStay (B.means self.new.code) self.new.input self.old.journal self.new.journal self.old.outs pid }
     {
         let word = word(&request);
         let need = mem::replace(&mut self.need, Need::Nothing);
@@ -144,7 +146,8 @@ impl<B: Behave> Kernel<B> {
         bytes
     }
 
-    /// Takes a process out that is ready, with the grant that it is still to be given.
+    /// Takes a process out that is ready, with the grant that it is still to be given. None exactly where each process that
+    /// is running is out, or the run goes no further.
     pub fn pick(&mut self) -> Option<(Pid, B::Proc, Grant)>
         ensures none { IfNone result (AllOut (B.means self.old.code) self.old.input self.old.journal self.old.outs ⊎ IsOver (standing_of (B.means self.old.code) self.old.input self.old.journal self.old.turns)) }
         ensures same { IfNone result (self.new ≡ self.old) }
@@ -166,11 +169,11 @@ impl<B: Behave> Kernel<B> {
         }
     }
 
-    /// How the run stands.
+    /// How the run stands. It is never idle, since nothing that is served has a deadline.
     pub fn state(&self) -> Standing
         ensures standing { result ≡ standing_of (B.means self.now.code) self.now.input self.now.journal self.now.turns }
         ensures going { result ≡ Going → SomeRunning (B.means self.now.code) self.now.input self.now.journal }
-        ensures awake { (until : ℕ) → result ≢ Idle until }
+        ensures never_idle { (until : ℕ) → result ≢ Idle until }
     {
         if self.kept.seats.all_over() {
             return Standing::Ended {
@@ -186,11 +189,13 @@ impl<B: Behave> Kernel<B> {
         Standing::Going
     }
 
+    /// The events so far: a settled run of at most the allowed turns, in which each process that is out is running.
     pub fn journal(&self) -> &Journal
         ensures items { result.now.items ≡ self.now.journal }
         ensures within { turns self.now.journal ≤ self.now.turns }
         ensures runs { IsRun (B.means self.now.code) self.now.input self.now.journal }
         ensures settled { IsSettledRun (B.means self.now.code) self.now.input self.now.journal }
+        ensures outs { OutsRun (B.means self.now.code) self.now.input self.now.journal self.now.outs }
     {
         &self.journal
     }

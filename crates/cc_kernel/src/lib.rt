@@ -9,6 +9,10 @@
 //! can be (`settle`). All memory of a step is taken before it (`prepare`), so that no step is ever half done: room for the
 //! events, for one more pending call, for as many served calls as are pending, for one more seat, the process that a Create
 //! makes, and the value of a Reply with enough zeros at its end.
+//!
+//! What a step costs grows with the processes, the pending calls and the served ones, and not with the journal: `pick` and
+//! `state` walk the seats; a Reply, an end and a fault walk the served calls; and `settle` holds each pending call whose
+//! target waits at a `select` against every other one, once more after each accept.
 #![tactic(auto)]
 
 mod asks;
@@ -26,3 +30,6 @@ mod served;
 mod settle;
 
 pub use kernel::Kernel;
+
+#[cfg(test)]
+mod tests;

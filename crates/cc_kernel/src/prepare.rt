@@ -32,7 +32,8 @@ pub(crate) fn make_room<P: Drop>(kept: &mut Kept<P>, journal: &mut Journal) -> R
 // The most cells that the value of one of these calls has.
 fn most_cells<B: Behave>(code: &B, calls: &[ServedCall]) -> usize
     requires { All (λ call. call.trans < length (B.means code.now).shapes) calls.now }
-    ensures { All (λ call. value_cells (B.means code.now) call.trans ≤ result) calls.now }
+    ensures enough { All (λ call. value_cells (B.means code.now) call.trans ≤ result) calls.now }
+    ensures no_more { (n : ℕ) → All (λ call. value_cells (B.means code.now) call.trans ≤ n) calls.now → result ≤ n }
 {
     let mut most = 0;
     for call in calls {

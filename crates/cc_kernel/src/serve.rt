@@ -42,6 +42,61 @@ fn reply<B: Behave>(
     kept.seats.answer(call, Grant::Value(value));
 }
 
+// What the process asks is done, with what was made for it.
+fn carry_out<B: Behave>(
+    code: &B,
+    kept: &mut Kept<B::Proc>,
+    pid: Pid,
+    process: B::Proc,
+    request: Request,
+    need: Need<B::Proc>,
+)
+    requires within { pid.0 < length kept.old.seats.items }
+    requires calls { 0 < kept.old.pending.spare }
+    requires seats { 0 < kept.old.seats.spare }
+    requires few { kept.old.drawn < 4294967295 }
+    requires served { IsServed request }
+    requires enough { IsEnoughFor (prepared_for need) request }
+    requires ready { (events : ℕ) × IsReadyFor (B.means code.now) (B.at code.now) kept.old events need }
+    requires known { All (λ call. call.trans < length (B.means code.now).shapes) kept.old.served.items }
+    ensures state { (s : State) → IsState (B.at code.now) s (parts kept.old) → IsLocated (B.at code.now) s pid.0 process → IsState (B.at code.now) (effect (B.means code.now) s pid request) (parts kept.new) }
+    ensures input { kept.new.input ≡ kept.old.input }
+    ensures drawn { kept.new.drawn ≤ kept.old.drawn + 1 }
+    ensures outs { SameOuts (map is_out kept.new.seats.items) (set (map is_out kept.old.seats.items) pid.0 false) }
+    ensures room { kept.old.served.spare ≤ kept.new.served.spare }
+    ensures calls { length kept.new.pending.items ≤ length kept.old.pending.items + 1 }
+{
+    match request {
+        Request::Print { bytes: _bytes } => asks::go_on(kept, pid, process, Grant::Go),
+        Request::Pause => asks::go_on(kept, pid, process, Grant::Go),
+        Request::Create {
+            kind: _kind,
+            args: _args,
+        } => {
+            let Some(new) = started(need) else {
+                unreachable!()
+            };
+            asks::create(kept, pid, process, new)
+        }
+        Request::Call {
+            target,
+            trans,
+            args,
+        } => asks::call(kept, pid, process, target, trans, args),
+        Request::Select { alts } => asks::select(kept, pid, process, alts),
+        Request::Reply { value: _value } => {
+            let Some(value) = answer(need) else {
+                unreachable!()
+            };
+            reply(code, kept, pid, process, value)
+        }
+        Request::Get => asks::get(kept, pid, process),
+        Request::Done => asks::leave(kept, pid, ProcessStanding::Ended),
+        Request::Fault { kind } => asks::leave(kept, pid, ProcessStanding::Faulted { kind }),
+        _other => unreachable!(),
+    }
+}
+
 /// What the process asks is done, with what was made for it. Gives the bytes that are printed.
 pub(crate) fn serve<B: Behave>(
     code: &B,
@@ -73,63 +128,10 @@ pub(crate) fn serve<B: Behave>(
             asks::go_on(kept, pid, process, Grant::Go);
             bytes
         }
-        Request::Pause => {
-            asks::go_on(kept, pid, process, Grant::Go);
+        other => {
+            carry_out(code, kept, pid, process, other, need);
             Bytes::new(alloc)
         }
-        Request::Create {
-            kind: _kind,
-            args: _args,
-        } => {
-            let Some(new) = started(need) else {
-                unreachable!()
-            };
-            asks::create(kept, pid, process, new);
-            Bytes::new(alloc)
-        }
-        Request::Call {
-            target,
-            trans,
-            args,
-        } => {
-            asks::call(kept, pid, process, target, trans, args);
-            Bytes::new(alloc)
-        }
-        Request::Select { alts } => {
-            asks::select(kept, pid, process, alts);
-            Bytes::new(alloc)
-        }
-        Request::Reply { value: _value } => {
-            let Some(value) = answer(need) else {
-                unreachable!()
-            };
-            reply(code, kept, pid, process, value);
-            Bytes::new(alloc)
-        }
-        Request::Get => {
-            asks::get(kept, pid, process);
-            Bytes::new(alloc)
-        }
-        Request::Done => {
-            asks::leave(kept, pid, ProcessStanding::Ended);
-            Bytes::new(alloc)
-        }
-        Request::Fault { kind } => {
-            asks::leave(kept, pid, ProcessStanding::Faulted { kind });
-            Bytes::new(alloc)
-        }
-        Request::TimedCall {
-            target: _target,
-            trans: _trans,
-            args: _args,
-            wait: _wait,
-        } => unreachable!(),
-        Request::Send {
-            target: _target,
-            trans: _trans,
-            args: _args,
-        } => unreachable!(),
-        Request::Delay { wait: _wait } => unreachable!(),
     }
 }
 

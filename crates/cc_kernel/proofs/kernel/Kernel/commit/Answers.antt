@@ -1,12 +1,13 @@
-use Rattle.std.proofs.Common.{arith, ◌<◌, length, ◌∙◌}
+use Rattle.std.proofs.Common.{arith, ℕ, ◌<◌, List, length, subst, ◌∙◌}
 use Rattle.cc_kernel.proofs.Keeping.{all-served, kept-commit}
 use Rattle.cc_kernel.proofs.Known.{known-served}
+use Rattle.cc_kernel.proofs.Others.{others-stay, outs-run, prints-more, steps-on}
 use Rattle.cc_kernel.proofs.Outs.{out-at}
 use Rattle.cc_kernel.proofs.Seated.{Seated-at, out-running}
 use Rattle.cc_kernel.proofs.Stands.{below-allowed, going-left}
 use Rattle.cc_kernel.specs.Kept.{parts}
 use Rattle.cc_kernel.specs.Seats.{seat_at}
-use Rattle.cc_rules.specs.Runs.{state_after, turns}
+use Rattle.cc_rules.specs.Runs.{IsRun, state_after, turns}
 use Rattle.cc_rules.specs.State.{process_at}
 use Rattle.cc_kernel.proofs.kernel.Kernel.commit.Goals as goal
 
@@ -64,3 +65,41 @@ pub returns-clause-within : goal.returns-clause-within
 returns-clause-within g c =
     let kept = invariant_of-self g c in
     omega (arith, kept.spent_turns, kept.within)
+
+-- the journal goes on with what is asked
+pub returns-clause-steps : goal.returns-clause-steps
+returns-clause-steps g c =
+    let k = c.self.inside in
+    let m = g.B.Behave.means k.code.value in
+    let located = g.B.Behave.at k.code.value in
+    let s = state_after m k.kept.input k.journal.items in
+    let out = rw (← c.self.view_is) at c.requires.out in
+    let asks = rw (← c.self.view_is) at c.requires.asks in
+    let served = rw c.deref.ensures at c.serve-bytes.ensures.state in
+    let settles = rw (c.deref-2.ensures, c.add.ensures.items, c.word-word.ensures) at c.settle.ensures.settles in
+    rw (← c.self.view_is)
+    (steps-on m located s k.journal.items c.settle.new.journal.items (parts c.serve-bytes.new.kept) (parts c.settle.new.kept) c.args.pid c.args.request
+    asks (served s c.self.invariant.state out.1) settles)
+
+pub returns-clause-printed : goal.returns-clause-printed
+returns-clause-printed g c =
+    let k = c.self.inside in
+    let m = g.B.Behave.means k.code.value in
+    let steps = rw (← c.self.view_is) at (returns-clause-steps g c) in
+    let asks = rw (← c.self.view_is) at c.requires.asks in
+    rw (← c.self.view_is, c.settle.ensures.input, c.serve-bytes.ensures.input)
+    (prints-more m k.kept.input k.journal.items c.settle.new.journal.items c.args.pid c.args.request steps asks)
+
+pub returns-clause-others : goal.returns-clause-others
+returns-clause-others g c q other out =
+    let k = c.self.inside in
+    let m = g.B.Behave.means k.code.value in
+    let inv = c.self.invariant in
+    let steps = rw (← c.self.view_is) at (returns-clause-steps g c) in
+    let there = rw (← c.self.view_is) at out in
+    let same = c.settle.ensures.input ∙ c.serve-bytes.ensures.input in
+    let F : List ℕ → Type 0 = λ input. IsRun m input c.settle.new.journal.items in
+    let runs = subst F same (invariant_of-self g c).runs in
+    rw (← c.self.view_is, same)
+    (others-stay m k.kept.input k.journal.items c.settle.new.journal.items c.args.pid q c.args.request steps runs other
+    (outs-run (g.B.Behave.at k.code.value) (state_after m k.kept.input k.journal.items).processes k.kept.seats.items inv.state.seated q.0 there))

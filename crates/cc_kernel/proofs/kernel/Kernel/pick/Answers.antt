@@ -1,8 +1,8 @@
-use Rattle.std.proofs.Common.{inl, ap, false}
+use Rattle.std.proofs.Common.{inl, ap, false, refl}
 use Rattle.std.proofs.lemmas.List.{map-set}
 use Rattle.cc_kernel.proofs.Keeping.{kept-out, kept-ready}
 use Rattle.cc_kernel.proofs.Known.{ready-next}
-use Rattle.cc_kernel.proofs.Outs.{in-at, taken-out}
+use Rattle.cc_kernel.proofs.Outs.{in-at, out-set}
 use Rattle.cc_kernel.proofs.Seated.{all-out}
 use Rattle.cc_kernel.proofs.Stands.{other-count, running-goes}
 use Rattle.cc_kernel.specs.Held.{prepared_for}
@@ -72,5 +72,5 @@ returns-clause-out g c =
 
 pub returns-clause-is_out : goal.returns-clause-is_out
 returns-clause-is_out g c =
-    let k = c.self.inside in
-    rw c.in-Some-take.ensures.place.1 (taken-out k.kept.seats.items c.in-Some.at (seat_at k.kept.seats.items c.in-Some.at) c.in-Some.ensures.0)
+    rw c.in-Some-take.ensures.place.1
+    (out-set c.self.inside.kept.seats.items c.in-Some.at (with_out (seat_at c.self.inside.kept.seats.items c.in-Some.at)) c.in-Some.ensures.0 refl)
