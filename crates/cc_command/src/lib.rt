@@ -19,6 +19,8 @@ pub use reader::{MOST_TEXT_BYTES, ReadError, one_program};
 pub use words::Words;
 
 #[cfg(test)]
+mod drive_tests;
+#[cfg(test)]
 mod reader_tests;
 #[cfg(test)]
 mod tests;

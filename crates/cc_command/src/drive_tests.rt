@@ -1,0 +1,299 @@
+use cc_base::{Bytes, CallId, Cells, FaultKind, Memory, Pid};
+use cc_pool::{Driven, Stop, drive};
+use cc_rules::{Event, Standing, Word};
+use cc_source::{
+    AcceptPart, Argument, DataType, Early, Expression, Kind, Location, Program, ProgramParts, Site,
+    Statement, Transaction,
+};
+use cc_world::MemSink;
+use sqlite_items::{Boxed, Items};
+use std::alloc::Global;
+use std::process::Abort;
+use std::rt::HostRuntime;
+use std::sync::Arc;
+
+/// The type of processes of kind 1.
+fn server_type() -> DataType {
+    DataType::Process { kind: 1 }
+}
+
+/// The list of one item.
+fn one<T: Drop>(alloc: Global, item: T) -> Result<Items<T>, Memory> {
+    let mut items = Items::new(alloc);
+    items.push(item)?;
+    Ok(items)
+}
+
+/// The list of two items.
+fn two<T: Drop>(alloc: Global, first: T, second: T) -> Result<Items<T>, Memory> {
+    let mut items = one(alloc, first)?;
+    items.push(second)?;
+    Ok(items)
+}
+
+fn number(value: i64) -> Expression {
+    Expression::Constant {
+        value,
+        data_type: DataType::Int,
+    }
+}
+
+fn variable(data_type: DataType) -> Expression {
+    Expression::Read {
+        from: Location::Variable {
+            number: 0,
+            data_type,
+        },
+    }
+}
+
+/// `putchar(e);`
+fn put(alloc: Global, e: Expression) -> Result<Statement, Memory> {
+    let value = Boxed::new(alloc, e)?;
+    Ok(Statement::Evaluate {
+        expression: Expression::PutChar { value },
+    })
+}
+
+/// `p = create s();`
+fn create(alloc: Global) -> Result<Statement, Memory> {
+    let made = Expression::CreateProcess {
+        kind: 1,
+        args: Items::new(alloc),
+    };
+    let value = Boxed::new(alloc, made)?;
+    let to = Location::Variable {
+        number: 0,
+        data_type: server_type(),
+    };
+    Ok(Statement::Evaluate {
+        expression: Expression::Assign { to, value },
+    })
+}
+
+/// `p.t(args)`
+fn call(alloc: Global, args: Items<Argument>, data_type: DataType) -> Result<Expression, Memory> {
+    let process = Boxed::new(alloc, variable(server_type()))?;
+    Ok(Expression::Transact {
+        process,
+        transaction: 0,
+        args,
+        data_type,
+    })
+}
+
+/// `process s p;`
+fn declare() -> Statement {
+    Statement::Declare {
+        variable: 0,
+        data_type: server_type(),
+    }
+}
+
+/// A kind without parameters and with one variable.
+fn kind(alloc: Global, data_type: DataType, body: Items<Statement>) -> Result<Kind, Memory> {
+    let variables = one(alloc, data_type)?;
+    Ok(Kind {
+        parameters: 0,
+        variables,
+        body,
+    })
+}
+
+/// `putchar(p.t(65));`
+fn put_answer(alloc: Global) -> Result<Statement, Memory> {
+    let argument = Argument {
+        value: number(65),
+        data_type: DataType::Int,
+    };
+    let args = one(alloc, argument)?;
+    let called = call(alloc, args, DataType::Int)?;
+    put(alloc, called)
+}
+
+/// `main() { process s p; p = create s(); putchar(p.t(65)); }`
+fn client(alloc: Global) -> Result<Kind, Memory> {
+    let created = create(alloc)?;
+    let mut body = two(alloc, declare(), created)?;
+    let printed = put_answer(alloc)?;
+    body.push(printed)?;
+    kind(alloc, server_type(), body)
+}
+
+/// `process body s() { accept t(x) { putchar(x); treturn 66; } }`
+fn server(alloc: Global) -> Result<Kind, Memory> {
+    let printed = put(alloc, variable(DataType::Int))?;
+    let replied = Statement::TransactionReturn {
+        value: Some(number(66)),
+        data_type: DataType::Int,
+    };
+    let block = two(alloc, printed, replied)?;
+    let accept = Statement::Accept {
+        part: AcceptPart { site: 0, block },
+    };
+    let body = one(alloc, accept)?;
+    kind(alloc, DataType::Int, body)
+}
+
+/// `process body s() { }`
+fn idle(alloc: Global) -> Kind {
+    Kind {
+        parameters: 0,
+        variables: Items::new(alloc),
+        body: Items::new(alloc),
+    }
+}
+
+/// The sites of the accept of `server`.
+fn sites(alloc: Global) -> Result<Items<Site>, Memory> {
+    one(alloc, Site {
+        kind: 1,
+        transaction: 0,
+        first: 0,
+        environment: Items::new(alloc),
+        such_that: None,
+        least_by: None,
+    })
+}
+
+/// `process spec s() { trans int t(int a); };` and these bodies of `main` and `s`.
+fn program(
+    alloc: Global,
+    main: Kind,
+    body: Kind,
+    sites: Items<Site>,
+    transaction: Transaction,
+) -> Result<ProgramParts, Memory> {
+    Ok(ProgramParts {
+        kinds: two(alloc, main, body)?,
+        functions: Items::new(alloc),
+        transactions: one(alloc, transaction)?,
+        sites,
+        formats: Items::new(alloc),
+    })
+}
+
+/// `trans int t(int a);`
+fn asked(alloc: Global) -> Result<Transaction, Memory> {
+    Ok(Transaction {
+        kind: 1,
+        is_async: false,
+        parameters: one(alloc, DataType::Int)?,
+        value: DataType::Int,
+    })
+}
+
+/// A server that answers one call, and its caller.
+fn rendezvous(alloc: Global) -> Result<ProgramParts, Memory> {
+    let main = client(alloc)?;
+    let body = server(alloc)?;
+    let places = sites(alloc)?;
+    let transaction = asked(alloc)?;
+    program(alloc, main, body, places, transaction)
+}
+
+/// The same caller, whose server ends at once.
+fn deserted(alloc: Global) -> Result<ProgramParts, Memory> {
+    let main = client(alloc)?;
+    let transaction = asked(alloc)?;
+    program(alloc, main, idle(alloc), Items::new(alloc), transaction)
+}
+
+/// `process spec s() { trans void t(); }; process body s() { } main() { process s p; p.t(); }`
+fn nobody(alloc: Global) -> Result<ProgramParts, Memory> {
+    let expression = call(alloc, Items::new(alloc), DataType::Void)?;
+    let body = two(alloc, declare(), Statement::Evaluate { expression })?;
+    let main = kind(alloc, server_type(), body)?;
+    let transaction = Transaction {
+        kind: 1,
+        is_async: false,
+        parameters: Items::new(alloc),
+        value: DataType::Void,
+    };
+    program(alloc, main, idle(alloc), Items::new(alloc), transaction)
+}
+
+/// Runs the program of these parts.
+fn run(
+    rt: &impl Abort,
+    alloc: Global,
+    parts: Result<ProgramParts, Memory>,
+    turns: u32,
+) -> Driven<MemSink> {
+    let parts = parts.expect(rt, "memory");
+    let typed = Program::new(alloc, parts).expect(rt, "memory");
+    let program = typed.expect(rt, "typed");
+    let straight = Early::new(program).expect(rt, "straight");
+    let code = Arc::new(alloc, straight).expect(rt, "memory");
+    let out = MemSink::new(alloc, 64, Cells::new(alloc));
+    drive(alloc, &code, Bytes::new(alloc), turns, out)
+}
+
+fn ask(pid: u32, word: Word) -> Event {
+    Event::Ask {
+        pid: Pid(pid),
+        word,
+    }
+}
+
+/// The run stands so, printed these bytes, and has this journal.
+fn leaves(ran: &Driven<MemSink>, standing: Standing, printed: &[u8], events: &[Event]) -> bool {
+    if ran.stop != Stop::Over || ran.standing != standing || ran.journal.len() != events.len() {
+        return false;
+    }
+    for (at, event) in events.iter().enumerate() {
+        if ran.journal.get(at) != Some(event) {
+            return false;
+        }
+    }
+    ran.out.bytes().as_slice() == printed
+}
+
+#[test]
+fn two_processes_meet(rt: HostRuntime) {
+    let ran = run(&rt, rt.alloc(), rendezvous(rt.alloc()), 1_000_000);
+    let events = [
+        ask(0, Word::Create),
+        ask(0, Word::Call),
+        ask(1, Word::Select),
+        Event::Accept {
+            pid: Pid(1),
+            alt: 0,
+            call: CallId(0),
+        },
+        ask(1, Word::Print),
+        ask(1, Word::Reply),
+        ask(0, Word::Print),
+        ask(0, Word::Done),
+        ask(1, Word::Done),
+    ];
+    assert!(rt; leaves(&ran, Standing::Ended { faulted: false }, b"AB", &events));
+    assert_eq!(rt; ran.faults.len(), 0);
+}
+
+#[test]
+fn a_call_of_no_process_is_a_fault(rt: HostRuntime) {
+    let ran = run(&rt, rt.alloc(), nobody(rt.alloc()), 1_000_000);
+    let events = [ask(0, Word::Fault)];
+    assert!(rt; leaves(&ran, Standing::Ended { faulted: true }, b"", &events));
+    assert!(rt; ran.faults.get(0) == Some(&(Pid(0), FaultKind::NullProcess)));
+}
+
+#[test]
+fn a_caller_is_told_that_its_server_ended(rt: HostRuntime) {
+    let ran = run(&rt, rt.alloc(), deserted(rt.alloc()), 1_000_000);
+    let events = [
+        ask(0, Word::Create),
+        ask(0, Word::Call),
+        ask(1, Word::Done),
+        ask(0, Word::Fault),
+    ];
+    assert!(rt; leaves(&ran, Standing::Ended { faulted: true }, b"", &events));
+    assert!(rt; ran.faults.get(0) == Some(&(Pid(0), FaultKind::CalleeGone)));
+}
+
+#[test]
+fn no_turns_are_soon_spent(rt: HostRuntime) {
+    let ran = run(&rt, rt.alloc(), rendezvous(rt.alloc()), 0);
+    assert!(rt; leaves(&ran, Standing::Spent, b"", &[]));
+}
