@@ -1,6 +1,11 @@
+pub mod Begins
 pub mod Ebnf
+pub mod Fronts
 pub mod Grammar
 pub mod Kinds
+pub mod Phrases
 pub mod Productions
+pub mod Reading
+pub mod Sentences
 pub mod Symbols
 pub mod Trees

@@ -1,8 +1,10 @@
 //! The grammar of the language: its phrases, what begins one, and what reading a list of tokens answers.
 #![tactic(auto)]
 
+mod fault;
 mod tree;
 
+pub use fault::ParseError;
 pub use tree::{
     Accept, Alternative, Assign, AssignOperator, Choice, Clauses, Conditional, Conjunction, Constant, ConstantValue,
     Declarator, Disjunction, Entry, Equality, EqualityOperator, EqualityStep, Field, ForHeader, Format, Function,
