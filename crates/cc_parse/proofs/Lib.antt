@@ -1,0 +1,5 @@
+pub mod Basics
+pub mod Facts
+pub mod First
+pub mod Tables
+pub mod Tails
