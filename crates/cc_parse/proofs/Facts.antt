@@ -9,11 +9,12 @@ use Rattle.cc_parse.specs.Kinds.{Kind}
 use Rattle.cc_parse.specs.Symbols.{Symbol}
 use Rattle.cc_parse.specs.Symbols as the
 use Rattle.cc_parse.proofs.Basics.{and_first, and_second, not_false, both_ways, within, within_has, within_lacks, apart}
+use Rattle.cc_parse.proofs.Exists.{all_kinds}
 use Rattle.cc_parse.proofs.Tables.{ends, tails, rank, open_rank, sample_rank, is_otherwise, is_plain, is_sampled, is_opened, takes_else, same_test, is_tested, tested}
 
 -- the next token tells the way
 abbrev pub Plain : ℕ → Ebnf → Type 0
-Plain r (tok k) = Unit {0}
+Plain r (tok k) = has all_kinds k ≡ true
 Plain r (seq a b) = Plain r a × Plain r b × ((apart (tails a) (begins b) || is_otherwise b) ≡ true)
 Plain r (alt a b) = Plain r a × Plain r b × (empty a ≡ false) × (empty b ≡ false) × (apart (begins a) (begins b) ≡ true)
 Plain r (many a) = Plain r a × (empty a ≡ false) × (apart (tails a) (begins a) ≡ true)
@@ -22,7 +23,7 @@ Plain r (ref s) = rank s < r
 Plain r (nest s) = nullable s ≡ false
 
 plain_of : (r : ℕ) (g : Ebnf) → is_plain r g ≡ true → Plain r g
-plain_of r (tok k) e = tt
+plain_of r (tok k) e = e
 plain_of r (seq a b) e =
     let more = and_second (is_plain r a) _ e in
     (plain_of r a (and_first (is_plain r a) _ e), plain_of r b (and_first (is_plain r b) _ more), and_second (is_plain r b) _ more)

@@ -11,6 +11,7 @@ use Rattle.cc_parse.specs.Kinds.{Kind, a_name, a_number, a_character, a_string, 
 use Rattle.cc_parse.specs.Symbols.{Symbol}
 use Rattle.cc_parse.specs.Symbols as the
 use Rattle.cc_parse.proofs.Basics.{within, apart}
+use Rattle.cc_parse.proofs.Exists.{all_kinds}
 
 -- ---- what may go on with some phrase of a symbol
 
@@ -320,7 +321,7 @@ is_otherwise _ = false
 
 -- The next token tells the way, and each part is of lower rank.
 abbrev pub is_plain : ℕ → Ebnf → Bool
-is_plain r (tok k) = true
+is_plain r (tok k) = has all_kinds k
 is_plain r (seq a b) = is_plain r a && (is_plain r b && (apart (tails a) (begins b) || is_otherwise b))
 is_plain r (alt a b) = is_plain r a && (is_plain r b && (not (empty a) && (not (empty b) && apart (begins a) (begins b))))
 is_plain r (many a) = is_plain r a && (not (empty a) && apart (tails a) (begins a))
