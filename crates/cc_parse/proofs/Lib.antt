@@ -1,8 +1,11 @@
 pub mod Basics
+pub mod Complete
 pub mod Exists
 pub mod Facts
 pub mod First
+pub mod Locality
 pub mod Parts
 pub mod Samples
+pub mod Sound
 pub mod Tables
 pub mod Tails
