@@ -3,7 +3,7 @@ use Rattle.std.proofs.Common.{◌≡◌, ℕ, zero, suc, ◌+◌, ◌<◌, ◌�
 use Rattle.std.specs.Prelude.{if◌then◌else◌, nat_lt}
 use Rattle.std.proofs.lemmas.Bool.{le-ltb}
 use Rattle.cc_lex.specs.declared.token.Token.{Token}
-use Rattle.cc_parse.specs.Begins.{has, empty, begins}
+use Rattle.cc_parse.specs.Begins.{has, nullable, empty, begins}
 use Rattle.cc_parse.specs.Ebnf.{Ebnf, tok, seq, alt, many, opt, ref, nest}
 use Rattle.cc_parse.specs.Kinds.{Kind, kind}
 use Rattle.cc_parse.specs.Phrases.{Marked, words, Stops, joined, Phrase, p_tok, p_seq, p_left, p_right, p_end, p_more, p_none, p_some, p_ref, p_nest}
@@ -68,7 +68,7 @@ module _ (most d : ℕ) where
 
   module _ (fits : d ≤ most) (r : ℕ) (refs nests : (s : Symbol) → Reader (TreeOf s))
       (hr : (s : Symbol) → rank s < r → Completes most (refs s) (Phrase d (ref s)))
-      (hn : (s : Symbol) → Completes most (nests s) (Phrase d (nest s))) where
+      (hn : (s : Symbol) → nullable s ≡ false → Completes most (nests s) (Phrase d (nest s))) where
     pub complete : (g : Ebnf) → Plain r g → Completes most (read refs nests g) (Phrase d g)
     complete (tok k) pl x ms f rest (p_tok e) st =
         cond_true _ _ _ e ∙ sym (cond_false (nat_lt most d) _ _ (le-ltb most d fits))
@@ -90,4 +90,4 @@ module _ (most d : ℕ) where
         ∙ ap (λ (t : Answer (Value a)). answered (λ u. Some u) t) (complete a pl.0 v ms f rest p st)
         ∙ answered-expected most ms (λ u. Some u) (Got v, rest) rest
     complete (ref s) pl x ms f rest p st = hr s pl x ms f rest p st
-    complete (nest s) pl x ms f rest p st = hn s x ms f rest p st
+    complete (nest s) pl x ms f rest p st = hn s pl x ms f rest p st

@@ -5,6 +5,7 @@ pub mod Facts
 pub mod First
 pub mod Locality
 pub mod Parts
+pub mod Readers
 pub mod Samples
 pub mod Sound
 pub mod Tables
