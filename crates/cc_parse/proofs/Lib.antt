@@ -4,6 +4,7 @@ pub mod Complete
 pub mod Exists
 pub mod Facts
 pub mod First
+pub mod Fronts
 pub mod Locality
 pub mod Parts
 pub mod Readers
