@@ -4,6 +4,7 @@ pub mod Complete
 pub mod Exists
 pub mod Facts
 pub mod First
+pub mod Forms
 pub mod Fronts
 pub mod Locality
 pub mod Parts
@@ -12,3 +13,5 @@ pub mod Samples
 pub mod Sound
 pub mod Tables
 pub mod Tails
+pub mod Under
+pub mod Viability
