@@ -1,3 +1,4 @@
+pub mod Agree
 pub mod Attach
 pub mod Basics
 pub mod Complete

@@ -29,6 +29,15 @@ pub record Begins (ts : List Token) : Type 0 where
   pub more : List Token
   pub spelled : words marks ≡ ts ++ more
 
+-- Two lists with the same tokens in front have the same nesting there.
+pub record SameNesting (took : List Token) (ms ns : List Marked) : Type 0 where
+  pub front : List Marked
+  pub left : List Marked
+  pub right : List Marked
+  pub first : ms ≡ front ++ left
+  pub second : ns ≡ front ++ right
+  pub spelled : words front ≡ took
+
 -- how many phrases that add to the nesting may hold a token
 unfoldable pub limit : ℕ
 limit = 200
