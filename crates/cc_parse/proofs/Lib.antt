@@ -8,6 +8,7 @@ pub mod First
 pub mod Forms
 pub mod Fronts
 pub mod Locality
+pub mod One
 pub mod Parsed
 pub mod Parts
 pub mod Readers
