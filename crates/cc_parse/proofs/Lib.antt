@@ -7,6 +7,7 @@ pub mod Facts
 pub mod First
 pub mod Forms
 pub mod Fronts
+pub mod LawsHold
 pub mod Locality
 pub mod One
 pub mod Parsed

@@ -117,11 +117,11 @@ next_none d a f = record { value = []; marks = []; goes = begins a; phrase = p_e
 
 -- ---- phrases of no token
 
-record Void (d : ℕ) (g : Ebnf) : Type 0 where
-  value : Value g
-  goes : List Kind
-  phrase : Phrase d g value [] goes
-  stops : (k : Kind) → has (begins g) k ≡ false → has goes k ≡ false
+pub record Void (d : ℕ) (g : Ebnf) : Type 0 where
+  pub value : Value g
+  pub goes : List Kind
+  pub phrase : Phrase d g value [] goes
+  pub stops : (k : Kind) → has (begins g) k ≡ false → has goes k ≡ false
 
 seq_none : (e : Bool) (f g : List Kind) (k : Kind) → e ≡ true → has (if e then f ++ g else f) k ≡ false → (has f k ≡ false) × (has g k ≡ false)
 seq_none true f g k e h = (lacks_left f g k h, lacks_right f g k h)
@@ -156,7 +156,7 @@ void_roots : (r : ℕ) (s : Symbol) → rank s < r → (d : ℕ) → nullable s 
 void_roots zero s lt d e = absurd (omega arith)
 void_roots (suc r) s lt d e = void_by (rank s) (λ u below. void_roots r u (omega (arith, lt, below))) (rule s) (plain s) d (empty_is s ∙ e)
 
-void : (r d : ℕ) (g : Ebnf) → Plain r g → empty g ≡ true → Void d g
+pub void : (r d : ℕ) (g : Ebnf) → Plain r g → empty g ≡ true → Void d g
 void r d g pl e = void_by r (λ s low. void_roots r s low) g pl d e
 
 -- ---- each token of `begins` begins a phrase

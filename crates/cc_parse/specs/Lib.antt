@@ -3,6 +3,7 @@ pub mod Ebnf
 pub mod Fronts
 pub mod Grammar
 pub mod Kinds
+pub mod Laws
 pub mod Phrases
 pub mod Productions
 pub mod Reading

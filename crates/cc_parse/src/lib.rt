@@ -2,9 +2,11 @@
 #![tactic(auto)]
 
 mod fault;
+mod laws;
 mod tree;
 
 pub use fault::ParseError;
+pub use laws::{each_symbol_has_a_phrase, one_answer, one_nesting, one_tree, read_form, tables_of_first_tokens, viable_tokens, whole_phrases};
 pub use tree::{
     Accept, Alternative, Assign, AssignOperator, Choice, Clauses, Conditional, Conjunction, Constant, ConstantValue,
     Declarator, Disjunction, Entry, Equality, EqualityOperator, EqualityStep, Field, ForHeader, Format, Function,
