@@ -2,6 +2,7 @@ pub mod Agree
 pub mod Attach
 pub mod Basics
 pub mod Complete
+pub mod Computed
 pub mod Exists
 pub mod Facts
 pub mod First

@@ -1,5 +1,7 @@
 pub mod Begins
 pub mod Ebnf
+pub mod Examples
+pub mod ExamplesHold
 pub mod Fronts
 pub mod Grammar
 pub mod Kinds
