@@ -1,5 +1,6 @@
 -- The examples, each computed.
 use Rattle.std.proofs.Common.{refl}
+use Rattle.cc_parse.specs.ExampleTrees.{NearestIf, Rows, Voids}
 use Rattle.cc_parse.specs.Examples.{items, declarations, statements, expressions, nesting}
 use Rattle.cc_parse.specs.ExamplesHold.{Hold}
 use Rattle.cc_parse.specs.Kinds.{kind}
@@ -25,3 +26,15 @@ expressions_hold = (refl, (refl, (refl, (refl, (refl, (refl, (refl, (refl, (refl
 pub nesting_hold : Hold nesting
 unfolding parsed text_answer symbol limit kind
 nesting_hold = (refl, (refl, (refl, (refl, (refl, (refl, (refl, (refl, (refl, (refl, (refl, (refl, (refl, (refl, (refl, (refl, (refl, tt)))))))))))))))))
+
+pub rows : Rows
+unfolding parsed text_answer symbol limit kind
+rows = (refl, refl)
+
+pub nearest_if : NearestIf
+unfolding parsed text_answer symbol limit kind
+nearest_if = refl
+
+pub voids : Voids
+unfolding parsed text_answer symbol limit kind
+voids = refl

@@ -1,5 +1,6 @@
 pub mod Begins
 pub mod Ebnf
+pub mod ExampleTrees
 pub mod Examples
 pub mod ExamplesHold
 pub mod Fronts

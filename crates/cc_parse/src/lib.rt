@@ -14,3 +14,6 @@ pub use tree::{
     PrefixOperator, Primary, Statement, Step, SuffixOperator, Sum, SumOperator, SumStep, Term, TermOperator, TermStep,
     Transaction, TransactionParameter, Tree, TypeName, Unary,
 };
+
+#[cfg(test)]
+mod tests;
