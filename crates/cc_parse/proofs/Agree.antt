@@ -1,12 +1,11 @@
 -- Phrases that begin with the same tokens have the same nesting there.
-use Rattle.std.proofs.Common.{◌≡◌, ℕ, suc, ◌+◌, Bool, true, false, List, [], ◌∷◌, ◌++◌, length, Option, Some, None, ◌⊎◌, inl, inr, refl, sym, ◌∙◌, ap, append_assoc, arith, length-append}
+use Rattle.std.proofs.Common.{◌≡◌, ℕ, true, false, List, [], ◌∷◌, ◌++◌, length, refl, sym, ◌∙◌, ap, append_assoc, arith, length-append}
 use Rattle.std.proofs.lemmas.List.{append_cancel_left}
 use Rattle.cc_lex.specs.declared.token.Token.{Token}
 use Rattle.cc_parse.specs.Begins.{has, empty, begins}
-use Rattle.cc_parse.specs.Ebnf.{Ebnf, tok, seq, alt, many, opt, ref, nest}
-use Rattle.cc_parse.specs.Grammar.{rule}
+use Rattle.cc_parse.specs.Ebnf.{Ebnf}
 use Rattle.cc_parse.specs.Kinds.{Kind, kind}
-use Rattle.cc_parse.specs.Phrases.{Marked, words, Stops, joined, Phrase, p_tok, p_seq, p_left, p_right, p_end, p_more, p_none, p_some, p_ref, p_nest}
+use Rattle.cc_parse.specs.Phrases.{Marked, words, Stops, Phrase, p_tok, p_seq, p_left, p_right, p_end, p_more, p_none, p_some, p_ref, p_nest}
 use Rattle.cc_parse.specs.Sentences.{Sentence, SameNesting}
 use Rattle.cc_parse.specs.Symbols.{Symbol}
 use Rattle.cc_parse.specs.Symbols as the
@@ -15,7 +14,6 @@ use Rattle.cc_parse.specs.declared.tree.Tree.{Tree}
 use Rattle.cc_parse.proofs.Basics.{words-rest, nil_right, stops_first, stops_second, apart, apart_lacks}
 use Rattle.cc_parse.proofs.Facts.{Plain, plain, rank_low}
 use Rattle.cc_parse.proofs.First.{Starts, first}
-use Rattle.cc_parse.proofs.Fronts.{cut_of}
 use Rattle.cc_parse.proofs.Tables.{rank}
 
 -- Two phrases are one, and the tokens that both have in front go on behind them, or they agree on these tokens.

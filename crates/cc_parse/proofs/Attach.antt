@@ -1,5 +1,5 @@
 -- An `else` part that stands behind a phrase which may still have one: it goes to the nearest `if`.
-use Rattle.std.proofs.Common.{◌≡◌, ℕ, suc, Bool, true, false, ◌||◌, ◌&&◌, not, List, [], ◌∷◌, ◌++◌, ◌⊎◌, Option, Some, None, inl, inr, refl, sym, ◌∙◌, ap, append_assoc, arith}
+use Rattle.std.proofs.Common.{◌≡◌, ℕ, suc, Bool, true, false, not, List, [], ◌∷◌, ◌++◌, ◌⊎◌, Some, inl, inr, refl, sym, ◌∙◌, ap, append_assoc, arith}
 use Rattle.std.specs.Prelude.{◌==◌}
 use Rattle.cc_lex.specs.declared.token.Token.{Token}
 use Rattle.cc_lex.specs.declared.token.Word.TheVariants as word
@@ -13,7 +13,6 @@ use Rattle.cc_parse.specs.Symbols as the
 use Rattle.cc_parse.specs.Trees.{Value, made}
 use Rattle.cc_parse.proofs.Basics.{and_first, and_second, not_false, or_split, both_ways, words-append, nil_right, has_split, has_same}
 use Rattle.cc_parse.proofs.Facts.{else_taken}
-use Rattle.cc_parse.proofs.First.{Starts, first}
 use Rattle.cc_parse.proofs.Tables.{is_otherwise, takes_else}
 
 -- these tokens are a phrase

@@ -1,11 +1,11 @@
 -- Laws of the words of the definitions.
-use Rattle.std.proofs.Common.{◌≡◌, ℕ, ◌≤◌, Bool, true, false, ◌||◌, ◌&&◌, not, List, [], ◌∷◌, ◌++◌, ◌⊎◌, inl, inr, refl, sym, ◌∙◌, ap, append_assoc, arith}
+use Rattle.std.proofs.Common.{◌≡◌, ℕ, Bool, true, false, ◌||◌, ◌&&◌, not, List, [], ◌∷◌, ◌++◌, ◌⊎◌, inl, inr, refl, sym, ◌∙◌, ap, append_assoc, arith}
 use Rattle.std.specs.Prelude.{if◌then◌else◌, nat_lt, ◌==◌}
 use Rattle.cc_lex.specs.declared.token.Token.{Token}
 use Rattle.cc_parse.specs.Begins.{has}
 use Rattle.cc_parse.specs.Kinds.{Kind, kind}
 use Rattle.cc_parse.specs.Phrases.{Marked, words, Stops, joined}
-use Rattle.cc_parse.specs.Reading.{Outcome, Got, Bad, Deep, Answer, Reader, and_then, answered, at, expected}
+use Rattle.cc_parse.specs.Reading.{Deep, Answer, Reader, and_then, answered, at, expected}
 
 pub words-append : (xs ys : List Marked) → words (xs ++ ys) ≡ words xs ++ words ys
 words-append [] ys = refl

@@ -1,13 +1,13 @@
 -- A reader takes each phrase whole, up to the first token that is held too often.
-use Rattle.std.proofs.Common.{◌≡◌, ℕ, zero, suc, ◌+◌, ◌<◌, ◌≤◌, Bool, true, false, ◌||◌, ◌&&◌, List, [], ◌∷◌, ◌++◌, length, Option, Some, None, inl, inr, refl, sym, ◌∙◌, ap, append_assoc, arith, length-append}
-use Rattle.std.specs.Prelude.{if◌then◌else◌, nat_lt}
+use Rattle.std.proofs.Common.{◌≡◌, ℕ, zero, suc, ◌<◌, ◌≤◌, true, false, List, [], ◌∷◌, ◌++◌, length, Some, inl, inr, refl, sym, ◌∙◌, ap, arith, length-append}
+use Rattle.std.specs.Prelude.{nat_lt}
 use Rattle.std.proofs.lemmas.Bool.{le-ltb}
 use Rattle.cc_lex.specs.declared.token.Token.{Token}
-use Rattle.cc_parse.specs.Begins.{has, nullable, empty, begins}
+use Rattle.cc_parse.specs.Begins.{nullable, empty, begins}
 use Rattle.cc_parse.specs.Ebnf.{Ebnf, tok, seq, alt, many, opt, ref, nest}
 use Rattle.cc_parse.specs.Kinds.{Kind, kind}
-use Rattle.cc_parse.specs.Phrases.{Marked, words, Stops, joined, Phrase, p_tok, p_seq, p_left, p_right, p_end, p_more, p_none, p_some, p_ref, p_nest}
-use Rattle.cc_parse.specs.Reading.{Outcome, Got, Bad, Deep, Answer, Reader, and_then, answered, at, expect, both, loop, read, expected}
+use Rattle.cc_parse.specs.Phrases.{Marked, words, Stops, Phrase, p_tok, p_seq, p_left, p_right, p_end, p_more, p_none, p_some}
+use Rattle.cc_parse.specs.Reading.{Got, Answer, Reader, and_then, answered, at, loop, read, expected}
 use Rattle.cc_parse.specs.Symbols.{Symbol}
 use Rattle.cc_parse.specs.Trees.{TreeOf, Value}
 use Rattle.cc_parse.proofs.Basics.{words-rest, expected-append, and_then-expected, answered-expected, cond_true, cond_false, stops_first, stops_second, at_stops, apart, apart_lacks}

@@ -1,5 +1,5 @@
 -- There is a token of each kind.
-use Rattle.std.proofs.Common.{◌≡◌, ℕ, pos, Bool, true, false, ◌⊎◌, List, [], ◌∷◌, inl, inr, refl, sym, arith}
+use Rattle.std.proofs.Common.{◌≡◌, pos, true, List, [], ◌∷◌, inl, inr, refl, arith}
 use Rattle.std.specs.Prelude.{◌==◌}
 use Rattle.cc_lex.specs.declared.token.Mark.TheVariants as mark
 use Rattle.cc_lex.specs.declared.token.Size.TheVariants as size

@@ -1,16 +1,15 @@
 -- What the tests of the tables say.
-use Rattle.std.proofs.Common.{◌≡◌, ℕ, ◌<◌, Bool, true, false, ◌||◌, ◌&&◌, not, ◌⊎◌, inl, inr, refl, sym, ◌∙◌, ap}
-use Rattle.std.specs.Prelude.{if◌then◌else◌, nat_lt, ◌==◌}
+use Rattle.std.proofs.Common.{◌≡◌, ℕ, ◌<◌, Bool, true, false, ◌||◌, ◌&&◌, not, sym}
+use Rattle.std.specs.Prelude.{nat_lt}
 use Rattle.std.proofs.lemmas.Bool.{ltb-true}
 use Rattle.cc_parse.specs.Begins.{has, starts, nullable, empty, begins}
 use Rattle.cc_parse.specs.Ebnf.{Ebnf, tok, seq, alt, many, opt, ref, nest}
 use Rattle.cc_parse.specs.Grammar.{rule}
 use Rattle.cc_parse.specs.Kinds.{Kind}
 use Rattle.cc_parse.specs.Symbols.{Symbol}
-use Rattle.cc_parse.specs.Symbols as the
-use Rattle.cc_parse.proofs.Basics.{and_first, and_second, not_false, both_ways, within, within_has, within_lacks, apart}
+use Rattle.cc_parse.proofs.Basics.{and_first, and_second, not_false, within, within_has, within_lacks, apart}
 use Rattle.cc_parse.proofs.Exists.{all_kinds}
-use Rattle.cc_parse.proofs.Tables.{ends, tails, rank, open_rank, sample_rank, is_otherwise, is_plain, is_sampled, is_opened, takes_else, same_test, is_tested, tested}
+use Rattle.cc_parse.proofs.Tables.{ends, tails, rank, open_rank, sample_rank, is_otherwise, is_plain, is_sampled, is_opened, takes_else, same_test, tested}
 
 -- the next token tells the way
 abbrev pub Plain : ℕ → Ebnf → Type 0

@@ -1,9 +1,9 @@
 -- A phrase begins with a token that may begin one.
-use Rattle.std.proofs.Common.{◌≡◌, ℕ, Bool, true, false, ◌||◌, ◌&&◌, List, [], ◌∷◌, ◌++◌, refl, sym, ◌∙◌}
+use Rattle.std.proofs.Common.{◌≡◌, ℕ, Bool, true, false, List, [], ◌∷◌, ◌++◌, refl, sym, ◌∙◌}
 use Rattle.std.specs.Prelude.{if◌then◌else◌, ◌==◌}
 use Rattle.cc_lex.specs.declared.token.Token.{Token}
-use Rattle.cc_parse.specs.Begins.{has, nullable, empty, begins}
-use Rattle.cc_parse.specs.Ebnf.{Ebnf, tok, seq, alt, many, opt, ref, nest}
+use Rattle.cc_parse.specs.Begins.{has, empty, begins}
+use Rattle.cc_parse.specs.Ebnf.{Ebnf, seq, alt, many, opt, ref}
 use Rattle.cc_parse.specs.Grammar.{rule}
 use Rattle.cc_parse.specs.Kinds.{Kind, kind}
 use Rattle.cc_parse.specs.Phrases.{Marked, Phrase, p_tok, p_seq, p_left, p_right, p_end, p_more, p_none, p_some, p_ref, p_nest}

@@ -1,16 +1,14 @@
 -- The form in which the grammar is read has the phrases and the fronts of the productions.
-use Rattle.std.proofs.Common.{◌≡◌, ℕ, zero, suc, Bool, true, false, List, [], ◌∷◌, ◌++◌, ◌⊎◌, inl, inr, refl, sym, ◌∙◌, ap, subst}
+use Rattle.std.proofs.Common.{◌≡◌, ℕ, zero, suc, Bool, true, false, refl, subst}
 use Rattle.std.specs.Prelude.{if◌then◌else◌}
 use Rattle.cc_lex.specs.declared.token.Mark.TheVariants as mark
-use Rattle.cc_lex.specs.declared.token.Token.{Token}
 use Rattle.cc_lex.specs.declared.token.Word.TheVariants as word
 use Rattle.cc_parse.specs.Ebnf.{Ebnf, tok, seq, alt, many, opt, ref, nest, ◌⨾◌, ◌∣◌, name, key, sign}
-use Rattle.cc_parse.specs.Fronts.{Whole, w_tok, w_seq, w_left, w_right, w_end, w_more, w_none, w_some, w_ref, w_nest, Front, f_before, f_tok, f_first, f_second, f_left, f_right, f_end, f_last, f_more, f_none, f_some, f_ref, f_nest}
+use Rattle.cc_parse.specs.Fronts.{f_before, f_first}
 use Rattle.cc_parse.specs.Grammar.{rule}
 use Rattle.cc_parse.specs.Productions.{production}
 use Rattle.cc_parse.specs.Symbols.{Symbol}
 use Rattle.cc_parse.specs.Symbols as the
-use Rattle.cc_parse.proofs.Basics.{both_ways}
 use Rattle.cc_parse.proofs.Under.{Under, keep, via, in_seq, from_alt, to_left, to_right, in_alt, in_many, in_opt, unfold_ref, fold_ref, spread, spread_first, regroup, group, some, skip, stop, first_or_not, last_or_not}
 
 -- a row before what follows it, in one row
@@ -331,7 +329,7 @@ module _ (rules : Symbol → Ebnf) (part : (s : Symbol) → is_part s ≡ true �
       (via rules (first_or_not rules (ref the.type) function (f_first f_before))
       (from_alt rules
       (via rules (in_seq rules type_up same) function_down)
-      (right (right (right (right same)))))))))) 
+      (right (right (right (right same))))))))))
       (written_down (rule the.item))
 
   -- ---- parameters of functions

@@ -1,12 +1,12 @@
 -- The laws of the grammar, from what is proved of its forms.
-use Rattle.std.proofs.Common.{◌≡◌, ℕ, Bool, true, false, List, [], ◌∷◌, ◌++◌, refl, sym, ◌∙◌, ap, subst}
+use Rattle.std.proofs.Common.{◌≡◌, true, List, [], ◌∷◌, refl, subst}
 use Rattle.cc_lex.specs.declared.token.Token.{Token}
 use Rattle.cc_parse.specs.Begins.{has, starts, nullable}
-use Rattle.cc_parse.specs.Ebnf.{Ebnf, ref}
-use Rattle.cc_parse.specs.Fronts.{Whole, Front}
-use Rattle.cc_parse.specs.Kinds.{Kind, kind}
-use Rattle.cc_parse.specs.Laws.{IsPhrase, EachHasAPhrase, StartsBegin, OnlyStartsBegin, NullableAreEmpty, OnlyNullableAreEmpty, WholesAreRead, ReadAreWhole}
-use Rattle.cc_parse.specs.Phrases.{Marked, words, Phrase}
+use Rattle.cc_parse.specs.Ebnf.{ref}
+use Rattle.cc_parse.specs.Fronts.{Whole}
+use Rattle.cc_parse.specs.Kinds.{kind}
+use Rattle.cc_parse.specs.Laws.{EachHasAPhrase, StartsBegin, OnlyStartsBegin, NullableAreEmpty, OnlyNullableAreEmpty, WholesAreRead, ReadAreWhole}
+use Rattle.cc_parse.specs.Phrases.{Marked, words}
 use Rattle.cc_parse.specs.Productions.{production}
 use Rattle.cc_parse.specs.Symbols.{Symbol}
 use Rattle.cc_parse.proofs.Facts.{rank_low}

@@ -1,5 +1,5 @@
 -- A reader sees no further than the token at which it stops.
-use Rattle.std.proofs.Common.{◌≡◌, ℕ, zero, suc, ◌+◌, ◌<◌, ◌≤◌, Bool, true, false, List, [], ◌∷◌, ◌++◌, length, Option, Some, None, inl, inr, refl, sym, ◌∙◌, ap, subst, append_assoc, arith, length-append}
+use Rattle.std.proofs.Common.{◌≡◌, ℕ, zero, suc, ◌<◌, ◌≤◌, Bool, true, false, List, [], ◌∷◌, ◌++◌, length, Some, None, inl, inr, refl, sym, ◌∙◌, ap, subst, append_assoc, arith, length-append}
 use Rattle.std.specs.Prelude.{if◌then◌else◌, ◌==◌}
 use Rattle.std.proofs.lemmas.List.{append_cancel_right}
 use Rattle.cc_lex.specs.declared.token.Token.{Token}
@@ -7,11 +7,11 @@ use Rattle.cc_parse.specs.Begins.{has, empty, begins}
 use Rattle.cc_parse.specs.Ebnf.{Ebnf, tok, seq, alt, many, opt, ref, nest}
 use Rattle.cc_parse.specs.Kinds.{Kind, kind}
 use Rattle.cc_parse.specs.Phrases.{Marked, words, Phrase}
-use Rattle.cc_parse.specs.Reading.{Outcome, Got, Bad, Deep, Answer, Reader, and_then, answered, at, expect, both, loop, read}
+use Rattle.cc_parse.specs.Reading.{Outcome, Got, Bad, Deep, Answer, Reader, and_then, answered, at, expect, loop, read}
 use Rattle.cc_parse.specs.Symbols.{Symbol}
 use Rattle.cc_parse.specs.Trees.{TreeOf, Value}
 use Rattle.cc_parse.proofs.Facts.{Plain}
-use Rattle.cc_parse.proofs.First.{Starts, first}
+use Rattle.cc_parse.proofs.First.{first}
 use Rattle.cc_parse.proofs.Sound.{Follows, Sound, shorter_by, sound}
 use Rattle.cc_parse.proofs.Tables.{rank}
 

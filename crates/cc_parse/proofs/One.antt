@@ -1,15 +1,15 @@
 -- A list of tokens has one answer.
-use Rattle.std.proofs.Common.{◌≡◌, ℕ, ◌+◌, ◌<◌, ◌≤◌, List, [], ◌∷◌, ◌++◌, length, ◌⊎◌, inl, inr, Result, Ok, Err, refl, sym, ◌∙◌, ap, subst, append_assoc, arith, length-append}
+use Rattle.std.proofs.Common.{◌≡◌, ℕ, ◌<◌, List, [], ◌∷◌, ◌++◌, length, ◌⊎◌, inl, inr, Result, Ok, Err, refl, sym, ◌∙◌, ap, subst, append_assoc, arith}
 use Rattle.std.proofs.lemmas.List.{append_cancel_left}
 use Rattle.cc_base.specs.declared.names.Place.{Place}
 use Rattle.cc_lex.specs.TokenList.{TokenList}
 use Rattle.cc_lex.specs.declared.token.Token.{Token}
 use Rattle.cc_parse.specs.Phrases.{Marked, words}
-use Rattle.cc_parse.specs.Sentences.{Sentence, Viable, Begins, limit, Shallow, ShallowFront, FirstTooDeep, Refused, place_of, IsTree, IsSyntax, IsTooDeep, Parses}
+use Rattle.cc_parse.specs.Sentences.{Sentence, Viable, limit, Shallow, FirstTooDeep, Refused, place_of, IsTree, IsSyntax, IsTooDeep, Parses}
 use Rattle.cc_parse.specs.declared.fault.ParseError.{ParseError}
 use Rattle.cc_parse.specs.declared.fault.ParseError.TheVariants as error
 use Rattle.cc_parse.specs.declared.tree.Tree.{Tree}
-use Rattle.cc_parse.proofs.Basics.{words-append, nil_right}
+use Rattle.cc_parse.proofs.Basics.{nil_right}
 use Rattle.cc_parse.proofs.Fronts.{cut_of}
 use Rattle.cc_parse.proofs.Parsed.{one_tree}
 use Rattle.cc_parse.proofs.Viability.{begins_of, viable_of}

@@ -1,21 +1,16 @@
 -- What is computed is what a parser is to answer.
-use Rattle.std.proofs.Common.{◌≡◌, ℕ, ◌+◌, ◌-◌, ◌<◌, ◌≤◌, Bool, true, false, List, [], ◌∷◌, ◌++◌, length, ◌⊎◌, inl, inr, Result, Ok, Err, refl, sym, ◌∙◌, ap, subst, append_assoc, zero-add, arith, length-append}
-use Rattle.std.specs.Prelude.{if◌then◌else◌, nat_lt}
+use Rattle.std.proofs.Common.{◌≡◌, ℕ, ◌+◌, ◌-◌, ◌<◌, ◌≤◌, Bool, true, false, List, [], ◌∷◌, ◌++◌, length, refl, sym, ◌∙◌, ap, subst, append_assoc, zero-add, arith, length-append}
+use Rattle.std.specs.Prelude.{nat_lt}
 use Rattle.std.proofs.lemmas.Bool.{ltb-true, ltb-false, lt-ltb, le-ltb}
-use Rattle.cc_base.specs.declared.names.Place.{Place}
 use Rattle.cc_lex.specs.TokenList.{TokenList}
 use Rattle.cc_lex.specs.declared.token.Token.{Token}
 use Rattle.cc_parse.specs.Ebnf.{ref}
-use Rattle.cc_parse.specs.Kinds.{Kind}
-use Rattle.cc_parse.specs.Phrases.{Marked, words, Stops, Phrase}
+use Rattle.cc_parse.specs.Phrases.{Marked, words, Phrase}
 use Rattle.cc_parse.specs.Reading.{Outcome, Got, Bad, Deep, Answer, Reader, symbol, expected, finished, text_answer, result_of, parsed}
-use Rattle.cc_parse.specs.Sentences.{Sentence, Viable, Begins, limit, Shallow, ShallowFront, FirstTooDeep, Refused, place_of, IsTree, IsSyntax, IsTooDeep, Parses}
+use Rattle.cc_parse.specs.Sentences.{Sentence, Viable, Begins, limit, Shallow, ShallowFront, FirstTooDeep, Refused, place_of, IsSyntax, Parses}
 use Rattle.cc_parse.specs.Symbols as the
-use Rattle.cc_parse.specs.declared.fault.ParseError.{ParseError}
-use Rattle.cc_parse.specs.declared.fault.ParseError.TheVariants as error
 use Rattle.cc_parse.specs.declared.tree.Tree.{Tree}
 use Rattle.cc_parse.proofs.Basics.{words-append, nil_right, cond_true, cond_false}
-use Rattle.cc_parse.proofs.Locality.{Local}
 use Rattle.cc_parse.proofs.Parts.{Begun}
 use Rattle.cc_parse.proofs.Readers.{symbol_sound, symbol_complete, symbol_local}
 use Rattle.cc_parse.proofs.Sound.{Follows, Sound}
@@ -94,10 +89,10 @@ shallow_front took rest o not e x front back p w = go (cut front)
     go (shallow s) = s
     go (deep f b m eq d s) =
         let q : Sentence x (f ++ m ∷ (b ++ back)) =
-            (let F : List Marked → Type 0 = λ l. Sentence x l in subst F (ap (λ (l : List Marked). l ++ back) eq ∙ append_assoc f (m ∷ b) back) p) in
+        (let F : List Marked → Type 0 = λ l. Sentence x l in subst F (ap (λ (l : List Marked). l ++ back) eq ∙ append_assoc f (m ∷ b) back) p) in
         let line : words f ++ m.1 ∷ (words b ++ rest) ≡ took ++ rest =
-            sym (append_assoc (words f) (m.1 ∷ words b) rest)
-            ∙ ap (λ (l : List Token). l ++ rest) (sym (words-append f (m ∷ b)) ∙ sym (ap words eq) ∙ w) in
+        sym (append_assoc (words f) (m.1 ∷ words b) rest)
+        ∙ ap (λ (l : List Token). l ++ rest) (sym (words-append f (m ∷ b)) ∙ sym (ap words eq) ∙ w) in
         absurd (not (not_deep (top (took ++ rest)) o rest (m.1 ∷ (words b ++ rest)) e (ap top (sym line) ∙ deep_read x f (b ++ back) m q s d (words b ++ rest))))
 
 -- two ways to cut one list
@@ -130,8 +125,8 @@ first_too_deep took t over e x front back m p w same = go (cut (front ++ m ∷ b
     go (deep f b n eq d s) =
         let q : Sentence x (f ++ n ∷ b) = (let F : List Marked → Type 0 = λ l. Sentence x l in subst F eq p) in
         let rests : n.1 ∷ words b ≡ t ∷ words back =
-            same_rest (top (words (front ++ m ∷ back))) Deep (n.1 ∷ words b) (t ∷ words back)
-            (ap top (ap words eq ∙ words-append f (n ∷ b)) ∙ deep_read x f b n q s d (words b)) reads in
+        same_rest (top (words (front ++ m ∷ back))) Deep (n.1 ∷ words b) (t ∷ words back)
+        (ap top (ap words eq ∙ words-append f (n ∷ b)) ∙ deep_read x f b n q s d (words b)) reads in
         let as_long : length (n ∷ b) ≡ length (m ∷ back) = omega (arith, ap length rests, words_length b, words_length back) in
         let both = same_cut f front (n ∷ b) (m ∷ back) (sym eq) as_long in
         let F : List Marked → Type 0 = λ l. Shallow l in
@@ -147,7 +142,7 @@ not_bad x ms rest p e = go (cut ms)
     go (deep f b m eq d s) =
         let q : Sentence x (f ++ m ∷ b) = (let F : List Marked → Type 0 = λ l. Sentence x l in subst F eq p) in
         let h : ◌≡◌ {A = Outcome Tree} Bad Deep =
-            not_deep (top (words ms)) Bad rest (m.1 ∷ words b) e (ap top (ap words eq ∙ words-append f (m ∷ b)) ∙ deep_read x f b m q s d (words b)) in
+        not_deep (top (words ms)) Bad rest (m.1 ∷ words b) e (ap top (ap words eq ∙ words-append f (m ∷ b)) ∙ deep_read x f b m q s d (words b)) in
         cc
 
 not_early : (x y : Tree) (ms : List Marked) (t : Token) (rest : List Token) → Sentence x ms → top (words ms) ≡ (Got y, t ∷ rest) → ⊥
@@ -158,7 +153,7 @@ not_early x y ms t rest p e = go (cut ms)
     go (deep f b m eq d s) =
         let q : Sentence x (f ++ m ∷ b) = (let F : List Marked → Type 0 = λ l. Sentence x l in subst F eq p) in
         let h : ◌≡◌ {A = Outcome Tree} (Got y) Deep =
-            not_deep (top (words ms)) (Got y) (t ∷ rest) (m.1 ∷ words b) e (ap top (ap words eq ∙ words-append f (m ∷ b)) ∙ deep_read x f b m q s d (words b)) in
+        not_deep (top (words ms)) (Got y) (t ∷ rest) (m.1 ∷ words b) e (ap top (ap words eq ∙ words-append f (m ∷ b)) ∙ deep_read x f b m q s d (words b)) in
         cc
 
 whole_shallow : (x y : Tree) (ms : List Marked) → Sentence x ms → top (words ms) ≡ (Got y, []) → Shallow ms
@@ -169,7 +164,7 @@ whole_shallow x y ms p e = go (cut ms)
     go (deep f b m eq d s) =
         let q : Sentence x (f ++ m ∷ b) = (let F : List Marked → Type 0 = λ l. Sentence x l in subst F eq p) in
         let h : ◌≡◌ {A = Outcome Tree} (Got y) Deep =
-            not_deep (top (words ms)) (Got y) [] (m.1 ∷ words b) e (ap top (ap words eq ∙ words-append f (m ∷ b)) ∙ deep_read x f b m q s d (words b)) in
+        not_deep (top (words ms)) (Got y) [] (m.1 ∷ words b) e (ap top (ap words eq ∙ words-append f (m ∷ b)) ∙ deep_read x f b m q s d (words b)) in
         absurd cc
 
 -- ---- the answer
@@ -209,7 +204,7 @@ module _ (list : TokenList) where
       syntax (words ms) (t ∷ over) (Got x) (λ k. cc) h e
       (viable (words ms) (record { value = x; marks = ms; goes = f; phrase = p; more = []; spelled = sym (nil_right (words ms)) }))
       (λ v. let b = begins_of (words ms ++ t ∷ []) v in
-          not_early b.tree x b.marks t b.more b.sentence (ap top (begins_line (words ms) t b) ∙ goes_as (words ms) t over b.more (Got x) (ap top (sym h) ∙ e)))
+      not_early b.tree x b.marks t b.more b.sentence (ap top (begins_line (words ms) t b) ∙ goes_as (words ms) t over b.more (Got x) (ap top (sym h) ∙ e)))
   answer (Bad, rest) e (took, b, h) = syntax took rest Bad (λ k. cc) h e (viable took b) (refused_bad took rest h e)
   answer (Deep, []) e (took, a, over, b, h, h') = absurd cc
   answer (Deep, t ∷ over) e (took, a, over', b, h, h') =

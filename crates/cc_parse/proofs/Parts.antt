@@ -1,5 +1,5 @@
 -- Fronts of phrases: from those of parts to those of the whole.
-use Rattle.std.proofs.Common.{◌≡◌, ℕ, Bool, true, false, List, [], ◌∷◌, ◌++◌, refl, sym, ◌∙◌, ap, append_assoc}
+use Rattle.std.proofs.Common.{◌≡◌, List, [], ◌++◌, sym, ◌∙◌, ap, append_assoc}
 use Rattle.cc_lex.specs.declared.token.Token.{Token}
 use Rattle.cc_parse.specs.Kinds.{Kind}
 use Rattle.cc_parse.specs.Phrases.{Marked, words, Stops, joined}

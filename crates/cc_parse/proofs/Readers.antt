@@ -1,6 +1,6 @@
 -- The readers of all symbols.
-use Rattle.std.proofs.Common.{◌≡◌, ℕ, zero, suc, ◌+◌, ◌<◌, ◌≤◌, Bool, true, false, List, [], ◌∷◌, ◌++◌, refl, sym, ◌∙◌, ap, arith}
-use Rattle.std.specs.Prelude.{if◌then◌else◌, nat_lt}
+use Rattle.std.proofs.Common.{◌≡◌, ℕ, zero, suc, ◌+◌, ◌<◌, ◌≤◌, false, List, [], ◌∷◌, ◌++◌, refl, sym, ◌∙◌, ap, arith}
+use Rattle.std.specs.Prelude.{nat_lt}
 use Rattle.std.proofs.lemmas.Bool.{lt-ltb}
 use Rattle.cc_lex.specs.declared.token.Token.{Token}
 use Rattle.cc_parse.specs.Begins.{has, starts, nullable}
@@ -8,7 +8,7 @@ use Rattle.cc_parse.specs.Ebnf.{Ebnf, ref, nest}
 use Rattle.cc_parse.specs.Grammar.{rule}
 use Rattle.cc_parse.specs.Kinds.{Kind, kind}
 use Rattle.cc_parse.specs.Phrases.{Marked, words, Phrase, p_tok, p_seq, p_left, p_right, p_end, p_more, p_none, p_some, p_ref, p_nest}
-use Rattle.cc_parse.specs.Reading.{Outcome, Got, Bad, Deep, Answer, Reader, answered, at, read, ranked, level, symbol, expected}
+use Rattle.cc_parse.specs.Reading.{Got, Bad, Deep, Answer, Reader, answered, read, ranked, level, symbol, expected}
 use Rattle.cc_parse.specs.Symbols.{Symbol}
 use Rattle.cc_parse.specs.Trees.{TreeOf, Value, made}
 use Rattle.cc_parse.proofs.Basics.{cond_true, answered-expected}

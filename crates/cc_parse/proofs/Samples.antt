@@ -1,6 +1,6 @@
 -- Each form has a phrase, and one that begins with each token that may begin one.
-use Rattle.std.proofs.Common.{◌≡◌, ℕ, zero, suc, ◌<◌, Bool, true, false, ◌||◌, ◌&&◌, not, ◌⊎◌, List, [], ◌∷◌, ◌++◌, Option, Some, None, inl, inr, refl, sym, ◌∙◌, ap, subst, arith}
-use Rattle.std.specs.Prelude.{if◌then◌else◌, nat_lt, ◌==◌}
+use Rattle.std.proofs.Common.{◌≡◌, ℕ, zero, suc, ◌<◌, Bool, true, false, ◌||◌, not, ◌⊎◌, List, [], ◌∷◌, ◌++◌, Some, None, inl, inr, refl, ◌∙◌, arith}
+use Rattle.std.specs.Prelude.{if◌then◌else◌, ◌==◌}
 use Rattle.std.proofs.lemmas.Bool.{ltb-true}
 use Rattle.cc_lex.specs.declared.token.Token.{Token}
 use Rattle.cc_parse.specs.Begins.{has, starts, nullable, empty, begins}
@@ -9,7 +9,6 @@ use Rattle.cc_parse.specs.Grammar.{rule}
 use Rattle.cc_parse.specs.Kinds.{Kind, kind}
 use Rattle.cc_parse.specs.Phrases.{Marked, words, Stops, joined, Phrase, p_tok, p_seq, p_left, p_right, p_end, p_more, p_none, p_some, p_ref, p_nest}
 use Rattle.cc_parse.specs.Symbols.{Symbol}
-use Rattle.cc_parse.specs.Symbols as the
 use Rattle.cc_parse.specs.Trees.{Value, made}
 use Rattle.cc_parse.proofs.Basics.{and_first, and_second, or_split, or_right, lacks_left, lacks_right, lacks_both, has_split, apart, apart_lacks}
 use Rattle.cc_parse.proofs.Exists.{token_of}

@@ -1,18 +1,18 @@
 -- What a reader took is a whole phrase, or the front of one.
-use Rattle.std.proofs.Common.{◌≡◌, ℕ, zero, suc, ◌+◌, ◌<◌, ◌≤◌, Bool, true, false, List, [], ◌∷◌, ◌++◌, length, Option, Some, None, inl, inr, refl, sym, ◌∙◌, ap, subst, append_assoc, arith, length-append}
+use Rattle.std.proofs.Common.{◌≡◌, ℕ, zero, suc, ◌<◌, ◌≤◌, Bool, true, false, List, [], ◌∷◌, ◌++◌, length, Some, inl, inr, refl, sym, ◌∙◌, ap, subst, append_assoc, arith, length-append}
 use Rattle.std.specs.Prelude.{if◌then◌else◌, ◌==◌}
 use Rattle.cc_lex.specs.declared.token.Token.{Token}
-use Rattle.cc_parse.specs.Begins.{has, empty, begins}
+use Rattle.cc_parse.specs.Begins.{empty, begins}
 use Rattle.cc_parse.specs.Ebnf.{Ebnf, tok, seq, alt, many, opt, ref, nest}
 use Rattle.cc_parse.specs.Kinds.{Kind, kind}
-use Rattle.cc_parse.specs.Phrases.{Marked, words, Stops, joined, Phrase, p_tok, p_seq, p_left, p_right, p_end, p_more, p_none, p_some, p_ref, p_nest}
-use Rattle.cc_parse.specs.Reading.{Outcome, Got, Bad, Deep, Answer, Reader, and_then, answered, at, expect, both, loop, read}
+use Rattle.cc_parse.specs.Phrases.{Marked, words, Stops, joined, Phrase, p_tok, p_seq, p_left, p_right, p_end, p_more, p_none, p_some}
+use Rattle.cc_parse.specs.Reading.{Got, Bad, Deep, Answer, Reader, and_then, answered, at, loop, read}
 use Rattle.cc_parse.specs.Symbols.{Symbol}
 use Rattle.cc_parse.specs.Trees.{TreeOf, Value}
 use Rattle.cc_parse.proofs.Basics.{words-append, stops_front, stops_joined, stops_at, stops_none}
 use Rattle.cc_parse.proofs.Facts.{Plain}
 use Rattle.cc_parse.proofs.First.{Starts, first}
-use Rattle.cc_parse.proofs.Parts.{Relation, Begun, Next, begun_as, filled, begun_second, none_begun}
+use Rattle.cc_parse.proofs.Parts.{Begun, Next, begun_as, filled, begun_second, none_begun}
 use Rattle.cc_parse.proofs.Samples.{Sample, sample, next_part, next_none}
 use Rattle.cc_parse.proofs.Tables.{rank}
 

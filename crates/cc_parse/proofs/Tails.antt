@@ -1,10 +1,9 @@
 -- What may go on with a phrase.
-use Rattle.std.proofs.Common.{◌≡◌, ℕ, Bool, true, false, ◌||◌, ◌&&◌, List, [], ◌∷◌, ◌++◌, refl, sym, ◌∙◌}
+use Rattle.std.proofs.Common.{◌≡◌, ℕ, Bool, true, false, List, [], ◌∷◌, ◌++◌, refl}
 use Rattle.std.specs.Prelude.{if◌then◌else◌}
-use Rattle.cc_lex.specs.declared.token.Token.{Token}
 use Rattle.cc_parse.specs.Begins.{has, empty, begins}
-use Rattle.cc_parse.specs.Ebnf.{Ebnf, tok, seq, alt, many, opt, ref, nest}
-use Rattle.cc_parse.specs.Kinds.{Kind, kind}
+use Rattle.cc_parse.specs.Ebnf.{Ebnf, seq, many}
+use Rattle.cc_parse.specs.Kinds.{Kind}
 use Rattle.cc_parse.specs.Phrases.{Marked, joined, Phrase, p_tok, p_seq, p_left, p_right, p_end, p_more, p_none, p_some, p_ref, p_nest}
 use Rattle.cc_parse.specs.Trees.{Value}
 use Rattle.cc_parse.proofs.Basics.{lacks_left, lacks_right, lacks_both}

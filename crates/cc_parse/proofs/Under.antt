@@ -1,8 +1,8 @@
 -- One form beneath another: its phrases and its fronts are phrases and fronts of the other.
-use Rattle.std.proofs.Common.{◌≡◌, ℕ, Bool, true, false, List, [], ◌∷◌, ◌++◌, refl, sym, ◌∙◌, ap, subst, append_assoc}
+use Rattle.std.proofs.Common.{◌≡◌, List, [], sym, subst, append_assoc}
 use Rattle.cc_lex.specs.declared.token.Token.{Token}
-use Rattle.cc_parse.specs.Ebnf.{Ebnf, tok, seq, alt, many, opt, ref, nest}
-use Rattle.cc_parse.specs.Fronts.{Whole, w_tok, w_seq, w_left, w_right, w_end, w_more, w_none, w_some, w_ref, w_nest, Front, f_before, f_tok, f_first, f_second, f_left, f_right, f_end, f_last, f_more, f_none, f_some, f_ref, f_nest}
+use Rattle.cc_parse.specs.Ebnf.{Ebnf, seq, alt, many, opt, ref}
+use Rattle.cc_parse.specs.Fronts.{Whole, w_tok, w_seq, w_left, w_right, w_end, w_more, w_none, w_some, w_ref, w_nest, Front, f_tok, f_first, f_second, f_left, f_right, f_end, f_last, f_more, f_none, f_some, f_ref, f_nest}
 use Rattle.cc_parse.specs.Symbols.{Symbol}
 use Rattle.cc_parse.proofs.Basics.{nil_right}
 

@@ -1,7 +1,7 @@
 -- A list of tokens is a front of a text exactly where it can be made a sentence.
-use Rattle.std.proofs.Common.{◌≡◌, ℕ, List, [], ◌∷◌, ◌++◌, refl, sym, ◌∙◌, ap, append_assoc}
+use Rattle.std.proofs.Common.{List}
 use Rattle.cc_lex.specs.declared.token.Token.{Token}
-use Rattle.cc_parse.specs.Ebnf.{Ebnf, ref}
+use Rattle.cc_parse.specs.Ebnf.{Ebnf}
 use Rattle.cc_parse.specs.Fronts.{Whole, w_tok, w_seq, w_left, w_right, w_end, w_more, w_none, w_some, w_ref, w_nest, Front, f_before, f_tok, f_first, f_second, f_left, f_right, f_end, f_last, f_more, f_none, f_some, f_ref, f_nest}
 use Rattle.cc_parse.specs.Grammar.{rule}
 use Rattle.cc_parse.specs.Productions.{production}

@@ -6,7 +6,6 @@ use Rattle.cc_parse.specs.Symbols.{Symbol}
 
 infixr 60 ◌⨾◌
 infixr 50 ◌∣◌
-
 pub data Ebnf : Type 0 where
   -- a token of this kind
   tok : Kind → Ebnf

@@ -1,5 +1,5 @@
 -- Some texts and their trees, written out.
-use Rattle.std.specs.Prelude.{◌≡◌, ℕ, List, [], ◌∷◌, Option, Some, None, Ok}
+use Rattle.std.specs.Prelude.{◌≡◌, ℕ, List, [], ◌∷◌, None, Ok}
 use Rattle.cc_base.specs.declared.names.Place.{Place}
 use Rattle.cc_lex.specs.declared.token.Mark.TheVariants as mark
 use Rattle.cc_lex.specs.declared.token.What.{What}
@@ -18,7 +18,6 @@ use Rattle.cc_parse.specs.declared.tree.Identifier.{Identifier}
 use Rattle.cc_parse.specs.declared.tree.Item.TheVariants as item
 use Rattle.cc_parse.specs.declared.tree.Order.{roll-Order}
 use Rattle.cc_parse.specs.declared.tree.Postfix.{roll-Postfix}
-use Rattle.cc_parse.specs.declared.tree.Prefix.{Prefix}
 use Rattle.cc_parse.specs.declared.tree.PrefixOperator.TheVariants as prefix_operator
 use Rattle.cc_parse.specs.declared.tree.Primary.TheVariants as primary
 use Rattle.cc_parse.specs.declared.tree.Statement.{Statement}
@@ -28,7 +27,6 @@ use Rattle.cc_parse.specs.declared.tree.SumOperator.TheVariants as sum_operator
 use Rattle.cc_parse.specs.declared.tree.SumStep.{roll-SumStep}
 use Rattle.cc_parse.specs.declared.tree.Term.{Term, roll-Term}
 use Rattle.cc_parse.specs.declared.tree.Tree.{Tree}
-use Rattle.cc_parse.specs.declared.tree.TypeName.TheVariants as type_name
 use Rattle.cc_parse.specs.declared.tree.Unary.{Unary}
 use Rattle.cc_parse.specs.declared.tree.Unary.TheVariants as unary
 
@@ -79,8 +77,8 @@ abbrev row_tree : Tree
 row_tree = in_function (statement.Expression (expression (roll-Sum (record {
   first = term (variable 97 4);
   more =
-    roll-SumStep (record { operator = sum_operator.Minus; operand = term (variable 98 6) })
-    ∷ roll-SumStep (record { operator = sum_operator.Minus; operand = term (variable 99 8) }) ∷ [];
+      roll-SumStep (record { operator = sum_operator.Minus; operand = term (variable 98 6) })
+      ∷ roll-SumStep (record { operator = sum_operator.Minus; operand = term (variable 99 8) }) ∷ [];
 }))))
 
 -- a() { - ! a; }

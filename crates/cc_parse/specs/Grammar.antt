@@ -11,7 +11,6 @@ use Rattle.cc_parse.specs.Symbols as the
 
 abbrev pub rule : Symbol → Ebnf
 rule the.text = many (ref the.item)
-
 rule the.item = ref the.structure ∣ ref the.enumeration ∣ ref the.process ∣ ref the.typed_function ∣ ref the.function
 rule the.structure = key word.Struct ⨾ name ⨾ (ref the.fields ∣ ref the.function)
 rule the.fields =
@@ -26,53 +25,37 @@ rule the.transactions = sign mark.OpenBrace ⨾ many (ref the.transaction) ⨾ s
 rule the.body = key word.Body ⨾ name ⨾ ref the.parameter_names ⨾ ref the.block
 rule the.typed_function = (key word.Void ∣ ref the.number_type) ⨾ ref the.function
 rule the.function = name ⨾ sign mark.OpenParenthesis ⨾ ref the.parameters ⨾ sign mark.CloseParenthesis ⨾ ref the.block
-
 rule the.type = key word.Void ∣ ref the.number_type ∣ ref the.named_type
 rule the.number_type = key word.Char ∣ key word.Int ∣ key word.Long
 rule the.named_type = key word.Struct ⨾ name ∣ key word.Enum ⨾ name ∣ key word.Process ⨾ name
-
 rule the.field = ref the.type ⨾ ref the.declarator ⨾ many (ref the.next_declarator) ⨾ sign mark.Semicolon
 rule the.next_declarator = sign mark.Comma ⨾ ref the.declarator
-
 rule the.declarator = name ⨾ opt (ref the.array_length)
 rule the.array_length = sign mark.OpenBracket ⨾ ref the.length ⨾ sign mark.CloseBracket
-
 rule the.constant = name ⨾ opt (ref the.constant_value)
 rule the.constant_value = sign mark.Assign ⨾ opt (sign mark.Minus) ⨾ ref the.length
-
 rule the.length = number ∣ character ∣ name
-
 rule the.transaction =
     key word.Trans ⨾ (key word.Async ∣ ref the.type) ⨾ name ⨾ ref the.signature ⨾ sign mark.Semicolon
 rule the.signature = sign mark.OpenParenthesis ⨾ ref the.transaction_parameters ⨾ sign mark.CloseParenthesis
-
 rule the.transaction_parameters = opt (ref the.transaction_parameter ⨾ many (ref the.next_transaction_parameter))
 rule the.next_transaction_parameter = sign mark.Comma ⨾ ref the.transaction_parameter
-
 rule the.transaction_parameter = ref the.type ⨾ opt name
-
 rule the.parameters = opt (ref the.parameters_from_void ∣ ref the.parameters_from_value)
 rule the.parameters_from_void = key word.Void ⨾ opt (name ⨾ many (ref the.next_parameter))
 rule the.parameters_from_value = (ref the.number_type ∣ ref the.named_type) ⨾ name ⨾ many (ref the.next_parameter)
 rule the.next_parameter = sign mark.Comma ⨾ ref the.parameter
-
 rule the.parameter = ref the.type ⨾ name
-
 rule the.names = name ⨾ many (ref the.next_name)
 rule the.next_name = sign mark.Comma ⨾ name
 rule the.parameter_names = sign mark.OpenParenthesis ⨾ opt (ref the.names) ⨾ sign mark.CloseParenthesis
-
 rule the.block = sign mark.OpenBrace ⨾ ref the.entries ⨾ sign mark.CloseBrace
 rule the.entries = many (ref the.entry)
-
 rule the.entry = ref the.local ∣ nest the.statement
-
 rule the.local = ref the.type ⨾ ref the.local_declarator ⨾ many (ref the.next_local_declarator) ⨾ sign mark.Semicolon
 rule the.next_local_declarator = sign mark.Comma ⨾ ref the.local_declarator
-
 rule the.local_declarator = name ⨾ opt (ref the.array_length ∣ ref the.initialiser)
 rule the.initialiser = sign mark.Assign ⨾ nest the.assign
-
 rule the.statement =
     sign mark.Semicolon ∣ ref the.block ∣ nest the.assign ⨾ sign mark.Semicolon ∣ ref the.if_statement ∣
     ref the.while_statement ∣ ref the.do_statement ∣ ref the.for_statement ∣ key word.Break ⨾ sign mark.Semicolon ∣
@@ -94,68 +77,50 @@ rule the.delay_statement = key word.Delay ⨾ nest the.assign ⨾ sign mark.Semi
 rule the.select_statement =
     key word.Select ⨾ sign mark.OpenBrace ⨾ ref the.alternative ⨾ many (ref the.next_alternative) ⨾ sign mark.CloseBrace
 rule the.next_alternative = key word.Or ⨾ ref the.alternative
-
 rule the.accept =
     key word.Accept ⨾ name ⨾ ref the.parameter_names ⨾ opt (ref the.clauses) ⨾ (ref the.block ∣ sign mark.Semicolon)
-
 rule the.clauses = ref the.such ⨾ opt (ref the.least) ∣ ref the.least ⨾ opt (ref the.such)
-
 rule the.such = key word.Suchthat ⨾ ref the.condition
-
 rule the.least = key word.By ⨾ ref the.condition
-
 rule the.alternative = opt (ref the.guard) ⨾ ref the.choice
 rule the.guard = ref the.condition ⨾ sign mark.Colon
-
 rule the.choice =
     ref the.accept ⨾ ref the.entries ∣ ref the.delay_choice ∣ ref the.immediate_choice ∣
     key word.Terminate ⨾ sign mark.Semicolon
 rule the.delay_choice = key word.Delay ⨾ nest the.assign ⨾ sign mark.Semicolon ⨾ ref the.entries
 rule the.immediate_choice = key word.Immediate ⨾ sign mark.Semicolon ⨾ ref the.entries
-
 rule the.assign = ref the.timed ∣ ref the.conditional ⨾ opt (ref the.store)
 rule the.timed =
     key word.Within ⨾ ref the.disjunction ⨾ sign mark.Question ⨾ ref the.postfix ⨾ sign mark.Colon ⨾ nest the.assign
 rule the.store = ref the.assign_operator ⨾ nest the.assign
-
 rule the.assign_operator =
     sign mark.Assign ∣ sign mark.PlusAssign ∣ sign mark.MinusAssign ∣ sign mark.StarAssign ∣ sign mark.SlashAssign ∣
     sign mark.PercentAssign
-
 rule the.conditional = ref the.disjunction ⨾ opt (ref the.arms)
 rule the.arms = sign mark.Question ⨾ nest the.assign ⨾ sign mark.Colon ⨾ nest the.conditional
-
 rule the.disjunction = ref the.conjunction ⨾ many (ref the.next_conjunction)
 rule the.next_conjunction = sign mark.Or ⨾ ref the.conjunction
-
 rule the.conjunction = ref the.equality ⨾ many (ref the.next_equality)
 rule the.next_equality = sign mark.And ⨾ ref the.equality
-
 rule the.equality = ref the.order ⨾ many (ref the.equality_step)
 rule the.equality_step = ref the.equality_operator ⨾ ref the.order
 rule the.equality_operator = sign mark.Equal ∣ sign mark.NotEqual
-
 rule the.order = ref the.sum ⨾ many (ref the.order_step)
 rule the.order_step = ref the.order_operator ⨾ ref the.sum
 rule the.order_operator = sign mark.Less ∣ sign mark.LessEqual ∣ sign mark.Greater ∣ sign mark.GreaterEqual
-
 rule the.sum = ref the.term ⨾ many (ref the.sum_step)
 rule the.sum_step = ref the.sum_operator ⨾ ref the.term
 rule the.sum_operator = sign mark.Plus ∣ sign mark.Minus
-
 rule the.term = ref the.unary ⨾ many (ref the.term_step)
 rule the.term_step = ref the.term_operator ⨾ ref the.unary
 rule the.term_operator = sign mark.Star ∣ sign mark.Slash ∣ sign mark.Percent
-
 rule the.unary = ref the.prefix ⨾ nest the.unary ∣ ref the.postfix
 rule the.prefix = sign mark.Minus ∣ sign mark.Plus ∣ sign mark.Not ∣ sign mark.Increment ∣ sign mark.Decrement
-
 rule the.postfix = ref the.primary ⨾ many (ref the.step) ⨾ opt (ref the.suffix)
 rule the.step =
     sign mark.Dot ⨾ name ⨾ opt (ref the.argument_list) ∣
     sign mark.OpenBracket ⨾ nest the.assign ⨾ sign mark.CloseBracket
 rule the.suffix = sign mark.Increment ∣ sign mark.Decrement
-
 rule the.primary =
     number ∣ character ∣ name ⨾ opt (ref the.argument_list) ∣ ref the.create ∣ key word.Putchar ⨾ ref the.condition ∣
     key word.Getchar ⨾ sign mark.OpenParenthesis ⨾ sign mark.CloseParenthesis ∣ ref the.printf ∣
@@ -163,7 +128,6 @@ rule the.primary =
 rule the.create = key word.Create ⨾ name ⨾ ref the.argument_list
 rule the.printf =
     key word.Printf ⨾ sign mark.OpenParenthesis ⨾ string ⨾ many (ref the.next_argument) ⨾ sign mark.CloseParenthesis
-
 rule the.arguments = opt (nest the.assign ⨾ many (ref the.next_argument))
 rule the.next_argument = sign mark.Comma ⨾ nest the.assign
 rule the.argument_list = sign mark.OpenParenthesis ⨾ ref the.arguments ⨾ sign mark.CloseParenthesis

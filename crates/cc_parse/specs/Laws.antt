@@ -12,7 +12,7 @@ use Rattle.cc_parse.specs.Productions.{production}
 use Rattle.cc_parse.specs.Reading.{parsed}
 use Rattle.cc_parse.specs.Sentences.{Sentence, Viable, Begins, SameNesting, Parses}
 use Rattle.cc_parse.specs.Symbols.{Symbol}
-use Rattle.cc_parse.specs.Trees.{TreeOf, Value}
+use Rattle.cc_parse.specs.Trees.{Value}
 use Rattle.cc_parse.specs.declared.fault.ParseError.{ParseError}
 use Rattle.cc_parse.specs.declared.fault.ParseError.TheVariants as error
 use Rattle.cc_parse.specs.declared.tree.Tree.{Tree}

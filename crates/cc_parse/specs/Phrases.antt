@@ -1,5 +1,5 @@
 -- What the phrases of the grammar are: which tokens are one, what it reads, and how deep each token stands.
-use Rattle.std.specs.Prelude.{◌≡◌, ◌==◌, ℕ, suc, true, false, List, [], ◌∷◌, ◌++◌, Option, Some, None, ◌⊎◌}
+use Rattle.std.specs.Prelude.{◌≡◌, ◌==◌, ℕ, suc, true, false, List, [], ◌∷◌, ◌++◌, Some, None}
 use Rattle.std.proofs.Common.{inl, inr}
 use Rattle.cc_lex.specs.declared.token.Token.{Token}
 use Rattle.cc_parse.specs.Begins.{has, begins}
@@ -7,7 +7,7 @@ use Rattle.cc_parse.specs.Ebnf.{Ebnf, tok, seq, alt, many, opt, ref, nest}
 use Rattle.cc_parse.specs.Grammar.{rule}
 use Rattle.cc_parse.specs.Kinds.{Kind, kind}
 use Rattle.cc_parse.specs.Symbols.{Symbol}
-use Rattle.cc_parse.specs.Trees.{TreeOf, Value, made}
+use Rattle.cc_parse.specs.Trees.{Value, made}
 
 -- A token, and how many phrases that add to the nesting hold it. Where such a phrase begins with the token, this is the nesting
 -- of the innermost one.

@@ -1,7 +1,6 @@
 -- A reader of each form, on lists: it takes a phrase from the front of the tokens, with one token ahead.
-use Rattle.std.specs.Prelude.{◌≡◌, ◌==◌, ℕ, zero, suc, ◌-◌, Bool, true, false, if◌then◌else◌, nat_lt, List, [], ◌∷◌, ◌++◌, length, Option, Some, None, ◌⊎◌, Result, Ok, Err}
+use Rattle.std.specs.Prelude.{◌==◌, ℕ, zero, suc, ◌-◌, Bool, false, if◌then◌else◌, nat_lt, List, [], ◌∷◌, ◌++◌, length, Some, None, Result, Ok, Err}
 use Rattle.std.proofs.Common.{inl, inr}
-use Rattle.cc_base.specs.declared.names.Place.{Place}
 use Rattle.cc_lex.specs.TokenList.{TokenList}
 use Rattle.cc_lex.specs.declared.token.Token.{Token}
 use Rattle.cc_parse.specs.Begins.{has, starts, begins}

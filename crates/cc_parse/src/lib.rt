@@ -6,13 +6,17 @@ mod laws;
 mod tree;
 
 pub use fault::ParseError;
-pub use laws::{each_symbol_has_a_phrase, one_answer, one_nesting, one_tree, read_form, tables_of_first_tokens, viable_tokens, whole_phrases};
+pub use laws::{
+    each_symbol_has_a_phrase, one_answer, one_nesting, one_tree, read_form, tables_of_first_tokens,
+    viable_tokens, whole_phrases,
+};
 pub use tree::{
-    Accept, Alternative, Assign, AssignOperator, Choice, Clauses, Conditional, Conjunction, Constant, ConstantValue,
-    Declarator, Disjunction, Entry, Equality, EqualityOperator, EqualityStep, Field, ForHeader, Format, Function,
-    Identifier, Item, Length, Local, LocalDeclarator, Order, OrderOperator, OrderStep, Parameter, Postfix, Prefix,
-    PrefixOperator, Primary, Statement, Step, SuffixOperator, Sum, SumOperator, SumStep, Term, TermOperator, TermStep,
-    Transaction, TransactionParameter, Tree, TypeName, Unary,
+    Accept, Alternative, Assign, AssignOperator, Choice, Clauses, Conditional, Conjunction,
+    Constant, ConstantValue, Declarator, Disjunction, Entry, Equality, EqualityOperator,
+    EqualityStep, Field, ForHeader, Format, Function, Identifier, Item, Length, Local,
+    LocalDeclarator, Order, OrderOperator, OrderStep, Parameter, Postfix, Prefix, PrefixOperator,
+    Primary, Statement, Step, SuffixOperator, Sum, SumOperator, SumStep, Term, TermOperator,
+    TermStep, Transaction, TransactionParameter, Tree, TypeName, Unary,
 };
 
 #[cfg(test)]

@@ -99,8 +99,15 @@ pub struct ConstantValue {
 /// A number that is known before the program runs.
 #[derive(Drop)]
 pub enum Length {
-    Number { place: Place, value: i64, size: Size },
-    Character { place: Place, value: u8 },
+    Number {
+        place: Place,
+        value: i64,
+        size: Size,
+    },
+    Character {
+        place: Place,
+        value: u8,
+    },
     Name(Identifier),
 }
 
@@ -433,8 +440,15 @@ pub enum SuffixOperator {
 #[cycle(expression)]
 #[derive(Drop)]
 pub enum Primary {
-    Number { place: Place, value: i64, size: Size },
-    Character { place: Place, value: u8 },
+    Number {
+        place: Place,
+        value: i64,
+        size: Size,
+    },
+    Character {
+        place: Place,
+        value: u8,
+    },
     Name(Identifier),
     Call(Identifier, Items<Assign>),
     Create(Place, Identifier, Items<Assign>),
