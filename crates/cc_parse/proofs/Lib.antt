@@ -3,7 +3,9 @@ pub mod Attach
 pub mod Basics
 pub mod Complete
 pub mod Computed
+pub mod Equations
 pub mod Exists
+pub mod Expand
 pub mod Facts
 pub mod First
 pub mod Forms
@@ -18,5 +20,6 @@ pub mod Samples
 pub mod Sound
 pub mod Tables
 pub mod Tails
+pub mod Turns
 pub mod Under
 pub mod Viability

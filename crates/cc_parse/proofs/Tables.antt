@@ -1,13 +1,13 @@
 -- The tables of the grammar, and one test of each symbol: that the tables are right, and that the rule is read with one token
 -- ahead.
 use Rattle.std.proofs.Common.{◌≡◌, ℕ, Bool, true, false, ◌||◌, ◌&&◌, not, List, [], ◌∷◌, ◌++◌, refl}
-use Rattle.std.specs.Prelude.{if◌then◌else◌, nat_lt}
+use Rattle.std.specs.Prelude.{if◌then◌else◌, nat_lt, ◌==◌}
 use Rattle.cc_lex.specs.declared.token.Mark.TheVariants as mark
 use Rattle.cc_lex.specs.declared.token.Word.TheVariants as word
 use Rattle.cc_parse.specs.Begins.{has, starts, nullable, empty, begins, entry_starts, item_starts, type_starts}
 use Rattle.cc_parse.specs.Ebnf.{Ebnf, tok, seq, alt, many, opt, ref, nest}
 use Rattle.cc_parse.specs.Grammar.{rule}
-use Rattle.cc_parse.specs.Kinds.{Kind, a_name, a_number, a_character, word_kind, mark_kind}
+use Rattle.cc_parse.specs.Kinds.{Kind, a_name, a_number, a_character, a_string, word_kind, mark_kind}
 use Rattle.cc_parse.specs.Symbols.{Symbol}
 use Rattle.cc_parse.specs.Symbols as the
 use Rattle.cc_parse.proofs.Basics.{within, apart}
@@ -75,6 +75,7 @@ ends the.next_alternative = word_kind word.Else ∷ entry_starts
 ends the.clauses = word_kind word.By ∷ word_kind word.Suchthat ∷ []
 ends the.alternative = word_kind word.Else ∷ entry_starts
 ends the.choice = word_kind word.Else ∷ entry_starts
+ends the.accept_choice = word_kind word.Else ∷ entry_starts
 ends the.delay_choice = word_kind word.Else ∷ entry_starts
 ends the.immediate_choice = word_kind word.Else ∷ entry_starts
 ends the.assign = assign_ends
@@ -97,7 +98,9 @@ ends the.term_step = postfix_ends
 ends the.unary = postfix_ends
 ends the.postfix = postfix_ends
 ends the.step = mark_kind mark.OpenParenthesis ∷ []
+ends the.selection = mark_kind mark.OpenParenthesis ∷ []
 ends the.primary = mark_kind mark.OpenParenthesis ∷ []
+ends the.named = mark_kind mark.OpenParenthesis ∷ []
 ends the.arguments =
     word_kind word.Within ∷ mark_kind mark.Not ∷ a_number ∷ a_character ∷ a_name ∷ word_kind word.Create ∷
     word_kind word.Putchar ∷ word_kind word.Getchar ∷ word_kind word.Printf ∷ mark_kind mark.Comma ∷ assign_ends
@@ -155,22 +158,23 @@ rank the.entry = 5
 rank the.local = 4
 rank the.next_local_declarator = 3
 rank the.local_declarator = 2
-rank the.statement = 13
+rank the.statement = 14
 rank the.if_statement = 2
 rank the.branches = 1
 rank the.while_statement = 1
 rank the.do_statement = 1
 rank the.for_statement = 2
 rank the.for_header = 1
-rank the.select_statement = 12
-rank the.next_alternative = 11
+rank the.select_statement = 13
+rank the.next_alternative = 12
 rank the.accept = 8
 rank the.clauses = 2
 rank the.such = 1
 rank the.least = 1
-rank the.alternative = 10
+rank the.alternative = 11
 rank the.guard = 1
-rank the.choice = 9
+rank the.choice = 10
+rank the.accept_choice = 9
 rank the.delay_choice = 7
 rank the.immediate_choice = 7
 rank the.assign = 20
@@ -191,9 +195,12 @@ rank the.term = 8
 rank the.term_step = 7
 rank the.unary = 6
 rank the.postfix = 5
-rank the.step = 3
+rank the.step = 4
+rank the.selection = 3
 rank the.primary = 4
+rank the.named = 3
 rank the.create = 3
+rank the.putchar = 1
 rank the.printf = 1
 rank the.arguments = 1
 rank the.argument_list = 2
@@ -211,16 +218,18 @@ open_rank the.transaction_parameter = 2
 open_rank the.parameters = 2
 open_rank the.parameters_from_value = 1
 open_rank the.parameter = 2
-open_rank the.entries = 14
-open_rank the.entry = 13
+open_rank the.entries = 15
+open_rank the.entry = 14
 open_rank the.local = 2
-open_rank the.statement = 12
-open_rank the.branches = 13
+open_rank the.statement = 13
+open_rank the.expression_statement = 12
+open_rank the.branches = 14
 open_rank the.for_part = 12
 open_rank the.clauses = 1
-open_rank the.alternative = 2
+open_rank the.alternative = 3
 open_rank the.guard = 1
-open_rank the.choice = 1
+open_rank the.choice = 2
+open_rank the.accept_choice = 1
 open_rank the.assign = 11
 open_rank the.store = 1
 open_rank the.conditional = 10
@@ -236,6 +245,7 @@ open_rank the.term = 4
 open_rank the.term_step = 1
 open_rank the.unary = 3
 open_rank the.postfix = 2
+open_rank the.step = 1
 open_rank the.primary = 1
 open_rank the.arguments = 12
 open_rank other = 0
@@ -269,6 +279,7 @@ sample_rank the.entry = 1
 sample_rank the.local = 1
 sample_rank the.next_local_declarator = 1
 sample_rank the.initialiser = 11
+sample_rank the.expression_statement = 11
 sample_rank the.if_statement = 12
 sample_rank the.condition = 11
 sample_rank the.branches = 1
@@ -278,14 +289,16 @@ sample_rank the.do_statement = 12
 sample_rank the.for_statement = 2
 sample_rank the.for_header = 1
 sample_rank the.delay_statement = 11
-sample_rank the.select_statement = 2
-sample_rank the.next_alternative = 2
+sample_rank the.select_statement = 3
+sample_rank the.next_alternative = 3
 sample_rank the.accept = 1
 sample_rank the.clauses = 13
 sample_rank the.such = 12
 sample_rank the.least = 12
-sample_rank the.alternative = 1
+sample_rank the.alternative = 2
 sample_rank the.guard = 12
+sample_rank the.choice = 1
+sample_rank the.accept_choice = 2
 sample_rank the.delay_choice = 11
 sample_rank the.immediate_choice = 1
 sample_rank the.assign = 10
@@ -307,7 +320,11 @@ sample_rank the.term = 3
 sample_rank the.term_step = 3
 sample_rank the.unary = 2
 sample_rank the.postfix = 1
+sample_rank the.step = 1
+sample_rank the.index = 11
 sample_rank the.create = 2
+sample_rank the.putchar = 12
+sample_rank the.parenthesised = 11
 sample_rank the.next_argument = 11
 sample_rank the.argument_list = 1
 sample_rank other = 0
@@ -366,7 +383,7 @@ is_tested s =
     is_plain (rank s) (rule s) && (is_sampled (sample_rank s) (rule s) && (is_opened (open_rank s) (rule s) && (
     takes_else (rule s) && (same_test (empty (rule s)) (nullable s) && (within (begins (rule s)) (starts s) && (
     within (starts s) (begins (rule s)) && (within (tails (rule s)) (ends s) && (nat_lt (rank s) 21 && (
-    nat_lt (sample_rank s) 14 && nat_lt (open_rank s) 15)))))))))
+    nat_lt (sample_rank s) 14 && nat_lt (open_rank s) 16)))))))))
 
 pub tested : (s : Symbol) → is_tested s ≡ true
 tested the.text = refl

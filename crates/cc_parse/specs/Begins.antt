@@ -3,7 +3,7 @@ use Rattle.std.specs.Prelude.{Bool, true, false, ◌||◌, ◌&&◌, ◌==◌, i
 use Rattle.cc_lex.specs.declared.token.Mark.TheVariants as mark
 use Rattle.cc_lex.specs.declared.token.Word.TheVariants as word
 use Rattle.cc_parse.specs.Ebnf.{Ebnf, tok, seq, alt, many, opt, ref, nest}
-use Rattle.cc_parse.specs.Kinds.{Kind, a_name, a_number, a_character, word_kind, mark_kind}
+use Rattle.cc_parse.specs.Kinds.{Kind, a_name, a_number, a_character, a_string, word_kind, mark_kind}
 use Rattle.cc_parse.specs.Symbols.{Symbol}
 use Rattle.cc_parse.specs.Symbols as the
 
@@ -107,6 +107,7 @@ starts the.next_local_declarator = mark_kind mark.Comma ∷ []
 starts the.local_declarator = a_name ∷ []
 starts the.initialiser = mark_kind mark.Assign ∷ []
 starts the.statement = statement_starts
+starts the.expression_statement = assign_starts
 starts the.if_statement = word_kind word.If ∷ []
 starts the.condition = mark_kind mark.OpenParenthesis ∷ []
 starts the.branches = statement_starts
@@ -120,6 +121,8 @@ starts the.for_part =
     mark_kind mark.Increment ∷ mark_kind mark.Decrement ∷ a_number ∷ a_character ∷ a_name ∷ word_kind word.Create ∷
     word_kind word.Putchar ∷ word_kind word.Getchar ∷ word_kind word.Printf ∷ mark_kind mark.OpenParenthesis ∷
     mark_kind mark.Semicolon ∷ []
+starts the.break_statement = word_kind word.Break ∷ []
+starts the.continue_statement = word_kind word.Continue ∷ []
 starts the.return_statement = word_kind word.Return ∷ []
 starts the.treturn_statement = word_kind word.Treturn ∷ []
 starts the.delay_statement = word_kind word.Delay ∷ []
@@ -135,8 +138,10 @@ starts the.alternative =
 starts the.guard = mark_kind mark.OpenParenthesis ∷ []
 starts the.choice =
     word_kind word.Accept ∷ word_kind word.Delay ∷ word_kind word.Immediate ∷ word_kind word.Terminate ∷ []
+starts the.accept_choice = word_kind word.Accept ∷ []
 starts the.delay_choice = word_kind word.Delay ∷ []
 starts the.immediate_choice = word_kind word.Immediate ∷ []
+starts the.terminate_choice = word_kind word.Terminate ∷ []
 starts the.assign = assign_starts
 starts the.timed = word_kind word.Within ∷ []
 starts the.store = assign_operators
@@ -165,10 +170,16 @@ starts the.unary = operand_starts
 starts the.prefix = prefix_starts
 starts the.postfix = primary_starts
 starts the.step = mark_kind mark.Dot ∷ mark_kind mark.OpenBracket ∷ []
+starts the.selection = mark_kind mark.Dot ∷ []
+starts the.index = mark_kind mark.OpenBracket ∷ []
 starts the.suffix = mark_kind mark.Increment ∷ mark_kind mark.Decrement ∷ []
 starts the.primary = primary_starts
+starts the.named = a_name ∷ []
 starts the.create = word_kind word.Create ∷ []
+starts the.putchar = word_kind word.Putchar ∷ []
+starts the.getchar = word_kind word.Getchar ∷ []
 starts the.printf = word_kind word.Printf ∷ []
+starts the.parenthesised = mark_kind mark.OpenParenthesis ∷ []
 starts the.arguments = assign_starts
 starts the.next_argument = mark_kind mark.Comma ∷ []
 starts the.argument_list = mark_kind mark.OpenParenthesis ∷ []

@@ -57,10 +57,11 @@ rule the.next_local_declarator = sign mark.Comma ⨾ ref the.local_declarator
 rule the.local_declarator = name ⨾ opt (ref the.array_length ∣ ref the.initialiser)
 rule the.initialiser = sign mark.Assign ⨾ nest the.assign
 rule the.statement =
-    sign mark.Semicolon ∣ ref the.block ∣ nest the.assign ⨾ sign mark.Semicolon ∣ ref the.if_statement ∣
-    ref the.while_statement ∣ ref the.do_statement ∣ ref the.for_statement ∣ key word.Break ⨾ sign mark.Semicolon ∣
-    key word.Continue ⨾ sign mark.Semicolon ∣ ref the.return_statement ∣ ref the.treturn_statement ∣
-    ref the.delay_statement ∣ ref the.accept ∣ ref the.select_statement
+    sign mark.Semicolon ∣ ref the.block ∣ ref the.expression_statement ∣ ref the.if_statement ∣
+    ref the.while_statement ∣ ref the.do_statement ∣ ref the.for_statement ∣ ref the.break_statement ∣
+    ref the.continue_statement ∣ ref the.return_statement ∣ ref the.treturn_statement ∣ ref the.delay_statement ∣
+    ref the.accept ∣ ref the.select_statement
+rule the.expression_statement = nest the.assign ⨾ sign mark.Semicolon
 rule the.if_statement = key word.If ⨾ ref the.condition ⨾ ref the.branches
 rule the.condition = sign mark.OpenParenthesis ⨾ nest the.assign ⨾ sign mark.CloseParenthesis
 rule the.branches = nest the.statement ⨾ opt (ref the.otherwise)
@@ -71,6 +72,8 @@ rule the.for_statement = key word.For ⨾ ref the.for_header ⨾ nest the.statem
 rule the.for_header =
     sign mark.OpenParenthesis ⨾ ref the.for_part ⨾ ref the.for_part ⨾ opt (nest the.assign) ⨾ sign mark.CloseParenthesis
 rule the.for_part = opt (nest the.assign) ⨾ sign mark.Semicolon
+rule the.break_statement = key word.Break ⨾ sign mark.Semicolon
+rule the.continue_statement = key word.Continue ⨾ sign mark.Semicolon
 rule the.return_statement = key word.Return ⨾ opt (nest the.assign) ⨾ sign mark.Semicolon
 rule the.treturn_statement = key word.Treturn ⨾ opt (nest the.assign) ⨾ sign mark.Semicolon
 rule the.delay_statement = key word.Delay ⨾ nest the.assign ⨾ sign mark.Semicolon
@@ -84,11 +87,11 @@ rule the.such = key word.Suchthat ⨾ ref the.condition
 rule the.least = key word.By ⨾ ref the.condition
 rule the.alternative = opt (ref the.guard) ⨾ ref the.choice
 rule the.guard = ref the.condition ⨾ sign mark.Colon
-rule the.choice =
-    ref the.accept ⨾ ref the.entries ∣ ref the.delay_choice ∣ ref the.immediate_choice ∣
-    key word.Terminate ⨾ sign mark.Semicolon
+rule the.choice = ref the.accept_choice ∣ ref the.delay_choice ∣ ref the.immediate_choice ∣ ref the.terminate_choice
+rule the.accept_choice = ref the.accept ⨾ ref the.entries
 rule the.delay_choice = key word.Delay ⨾ nest the.assign ⨾ sign mark.Semicolon ⨾ ref the.entries
 rule the.immediate_choice = key word.Immediate ⨾ sign mark.Semicolon ⨾ ref the.entries
+rule the.terminate_choice = key word.Terminate ⨾ sign mark.Semicolon
 rule the.assign = ref the.timed ∣ ref the.conditional ⨾ opt (ref the.store)
 rule the.timed =
     key word.Within ⨾ ref the.disjunction ⨾ sign mark.Question ⨾ ref the.postfix ⨾ sign mark.Colon ⨾ nest the.assign
@@ -117,17 +120,20 @@ rule the.term_operator = sign mark.Star ∣ sign mark.Slash ∣ sign mark.Percen
 rule the.unary = ref the.prefix ⨾ nest the.unary ∣ ref the.postfix
 rule the.prefix = sign mark.Minus ∣ sign mark.Plus ∣ sign mark.Not ∣ sign mark.Increment ∣ sign mark.Decrement
 rule the.postfix = ref the.primary ⨾ many (ref the.step) ⨾ opt (ref the.suffix)
-rule the.step =
-    sign mark.Dot ⨾ name ⨾ opt (ref the.argument_list) ∣
-    sign mark.OpenBracket ⨾ nest the.assign ⨾ sign mark.CloseBracket
+rule the.step = ref the.selection ∣ ref the.index
+rule the.selection = sign mark.Dot ⨾ name ⨾ opt (ref the.argument_list)
+rule the.index = sign mark.OpenBracket ⨾ nest the.assign ⨾ sign mark.CloseBracket
 rule the.suffix = sign mark.Increment ∣ sign mark.Decrement
 rule the.primary =
-    number ∣ character ∣ name ⨾ opt (ref the.argument_list) ∣ ref the.create ∣ key word.Putchar ⨾ ref the.condition ∣
-    key word.Getchar ⨾ sign mark.OpenParenthesis ⨾ sign mark.CloseParenthesis ∣ ref the.printf ∣
-    sign mark.OpenParenthesis ⨾ nest the.assign ⨾ sign mark.CloseParenthesis
+    number ∣ character ∣ ref the.named ∣ ref the.create ∣ ref the.putchar ∣ ref the.getchar ∣ ref the.printf ∣
+    ref the.parenthesised
+rule the.named = name ⨾ opt (ref the.argument_list)
 rule the.create = key word.Create ⨾ name ⨾ ref the.argument_list
+rule the.putchar = key word.Putchar ⨾ ref the.condition
+rule the.getchar = key word.Getchar ⨾ sign mark.OpenParenthesis ⨾ sign mark.CloseParenthesis
 rule the.printf =
     key word.Printf ⨾ sign mark.OpenParenthesis ⨾ string ⨾ many (ref the.next_argument) ⨾ sign mark.CloseParenthesis
+rule the.parenthesised = sign mark.OpenParenthesis ⨾ nest the.assign ⨾ sign mark.CloseParenthesis
 rule the.arguments = opt (nest the.assign ⨾ many (ref the.next_argument))
 rule the.next_argument = sign mark.Comma ⨾ nest the.assign
 rule the.argument_list = sign mark.OpenParenthesis ⨾ ref the.arguments ⨾ sign mark.CloseParenthesis

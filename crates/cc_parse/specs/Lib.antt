@@ -7,9 +7,12 @@ pub mod Fronts
 pub mod Grammar
 pub mod Kinds
 pub mod Laws
+pub mod Nests
 pub mod Phrases
 pub mod Productions
 pub mod Reading
 pub mod Sentences
+pub mod Steps
 pub mod Symbols
 pub mod Trees
+pub mod Turns

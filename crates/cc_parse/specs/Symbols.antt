@@ -44,6 +44,7 @@ pub data Symbol : Type 0 where
   local_declarator : Symbol
   initialiser : Symbol
   statement : Symbol
+  expression_statement : Symbol
   if_statement : Symbol
   condition : Symbol
   branches : Symbol
@@ -53,6 +54,8 @@ pub data Symbol : Type 0 where
   for_statement : Symbol
   for_header : Symbol
   for_part : Symbol
+  break_statement : Symbol
+  continue_statement : Symbol
   return_statement : Symbol
   treturn_statement : Symbol
   delay_statement : Symbol
@@ -65,8 +68,10 @@ pub data Symbol : Type 0 where
   alternative : Symbol
   guard : Symbol
   choice : Symbol
+  accept_choice : Symbol
   delay_choice : Symbol
   immediate_choice : Symbol
+  terminate_choice : Symbol
   assign : Symbol
   timed : Symbol
   store : Symbol
@@ -93,10 +98,16 @@ pub data Symbol : Type 0 where
   prefix : Symbol
   postfix : Symbol
   step : Symbol
+  selection : Symbol
+  index : Symbol
   suffix : Symbol
   primary : Symbol
+  named : Symbol
   create : Symbol
+  putchar : Symbol
+  getchar : Symbol
   printf : Symbol
+  parenthesised : Symbol
   arguments : Symbol
   next_argument : Symbol
   argument_list : Symbol

@@ -41,7 +41,7 @@ use Rattle.cc_parse.specs.declared.tree.Function.{Function}
 use Rattle.cc_parse.specs.declared.tree.Identifier.{Identifier}
 use Rattle.cc_parse.specs.declared.tree.Item.TheVariants as item
 use Rattle.cc_parse.specs.declared.tree.Item.{Item}
-use Rattle.cc_parse.specs.declared.tree.Length.TheVariants as length
+use Rattle.cc_parse.specs.declared.tree.Length.TheVariants as some_length
 use Rattle.cc_parse.specs.declared.tree.Length.{Length}
 use Rattle.cc_parse.specs.declared.tree.Local.{Local}
 use Rattle.cc_parse.specs.declared.tree.LocalDeclarator.TheVariants as local_declarator
@@ -54,6 +54,7 @@ use Rattle.cc_parse.specs.declared.tree.Parameter.{Parameter}
 use Rattle.cc_parse.specs.declared.tree.Postfix.{Postfix, roll-Postfix}
 use Rattle.cc_parse.specs.declared.tree.Prefix.{Prefix}
 use Rattle.cc_parse.specs.declared.tree.PrefixOperator.TheVariants as prefix_operator
+use Rattle.cc_parse.specs.declared.tree.PrefixOperator.{PrefixOperator}
 use Rattle.cc_parse.specs.declared.tree.Primary.TheVariants as primary
 use Rattle.cc_parse.specs.declared.tree.Primary.{Primary}
 use Rattle.cc_parse.specs.declared.tree.Statement.TheVariants as statement
@@ -123,6 +124,7 @@ TreeOf the.next_local_declarator = LocalDeclarator
 TreeOf the.local_declarator = LocalDeclarator
 TreeOf the.initialiser = Assign
 TreeOf the.statement = Statement
+TreeOf the.expression_statement = Statement
 TreeOf the.if_statement = Statement
 TreeOf the.condition = Assign
 TreeOf the.branches = Statement × Option Statement
@@ -132,6 +134,8 @@ TreeOf the.do_statement = Statement
 TreeOf the.for_statement = Statement
 TreeOf the.for_header = ForHeader
 TreeOf the.for_part = Option Assign
+TreeOf the.break_statement = Statement
+TreeOf the.continue_statement = Statement
 TreeOf the.return_statement = Statement
 TreeOf the.treturn_statement = Statement
 TreeOf the.delay_statement = Statement
@@ -144,8 +148,10 @@ TreeOf the.least = Assign
 TreeOf the.alternative = Alternative
 TreeOf the.guard = Assign
 TreeOf the.choice = Choice
+TreeOf the.accept_choice = Choice
 TreeOf the.delay_choice = Choice
 TreeOf the.immediate_choice = Choice
+TreeOf the.terminate_choice = Choice
 TreeOf the.assign = Assign
 TreeOf the.timed = Assign
 TreeOf the.store = AssignOperator × Assign
@@ -172,10 +178,16 @@ TreeOf the.unary = Unary
 TreeOf the.prefix = Prefix
 TreeOf the.postfix = Postfix
 TreeOf the.step = Step
+TreeOf the.selection = Step
+TreeOf the.index = Step
 TreeOf the.suffix = SuffixOperator
 TreeOf the.primary = Primary
+TreeOf the.named = Primary
 TreeOf the.create = Primary
+TreeOf the.putchar = Primary
+TreeOf the.getchar = Primary
 TreeOf the.printf = Primary
+TreeOf the.parenthesised = Primary
 TreeOf the.arguments = List Assign
 TreeOf the.next_argument = Assign
 TreeOf the.argument_list = List Assign
@@ -287,9 +299,9 @@ stands None = false
 stands (Some x) = true
 
 abbrev pub length_of : Value (rule the.length) → Length
-length_of (inl t) = length.Number t.place (number_value t.what) (number_size t.what)
-length_of (inr (inl t)) = length.Character t.place (character_byte t.what)
-length_of (inr (inr t)) = length.Name (identifier t)
+length_of (inl t) = some_length.Number t.place (number_value t.what) (number_size t.what)
+length_of (inr (inl t)) = some_length.Character t.place (character_byte t.what)
+length_of (inr (inr t)) = some_length.Name (identifier t)
 
 -- an asynchronous transaction has no type
 abbrev pub result_of : Token ⊎ TypeName → Option TypeName
@@ -330,21 +342,21 @@ local_declarator_of n None = local_declarator.Plain n
 local_declarator_of n (Some (inl l)) = local_declarator.Array n l
 local_declarator_of n (Some (inr x)) = local_declarator.Value n x
 
-abbrev pub simple_statement : Value (rule the.statement) → Statement
-simple_statement (inl t) = statement.Empty t.place
-simple_statement (inr (inl b)) = statement.Block b
-simple_statement (inr (inr (inl v))) = statement.Expression v.0
-simple_statement (inr (inr (inr (inl x)))) = x
-simple_statement (inr (inr (inr (inr (inl x))))) = x
-simple_statement (inr (inr (inr (inr (inr (inl x)))))) = x
-simple_statement (inr (inr (inr (inr (inr (inr (inl x))))))) = x
-simple_statement (inr (inr (inr (inr (inr (inr (inr (inl v)))))))) = statement.Break v.0.place
-simple_statement (inr (inr (inr (inr (inr (inr (inr (inr (inl v))))))))) = statement.Continue v.0.place
-simple_statement (inr (inr (inr (inr (inr (inr (inr (inr (inr (inl x)))))))))) = x
-simple_statement (inr (inr (inr (inr (inr (inr (inr (inr (inr (inr (inl x))))))))))) = x
-simple_statement (inr (inr (inr (inr (inr (inr (inr (inr (inr (inr (inr (inl x)))))))))))) = x
-simple_statement (inr (inr (inr (inr (inr (inr (inr (inr (inr (inr (inr (inr (inl x))))))))))))) = statement.Accept x
-simple_statement (inr (inr (inr (inr (inr (inr (inr (inr (inr (inr (inr (inr (inr x))))))))))))) = x
+abbrev pub statement_of : Value (rule the.statement) → Statement
+statement_of (inl x) = statement.Empty x.place
+statement_of (inr (inl x)) = statement.Block x
+statement_of (inr (inr (inl x))) = x
+statement_of (inr (inr (inr (inl x)))) = x
+statement_of (inr (inr (inr (inr (inl x))))) = x
+statement_of (inr (inr (inr (inr (inr (inl x)))))) = x
+statement_of (inr (inr (inr (inr (inr (inr (inl x))))))) = x
+statement_of (inr (inr (inr (inr (inr (inr (inr (inl x)))))))) = x
+statement_of (inr (inr (inr (inr (inr (inr (inr (inr (inl x))))))))) = x
+statement_of (inr (inr (inr (inr (inr (inr (inr (inr (inr (inl x)))))))))) = x
+statement_of (inr (inr (inr (inr (inr (inr (inr (inr (inr (inr (inl x))))))))))) = x
+statement_of (inr (inr (inr (inr (inr (inr (inr (inr (inr (inr (inr (inl x)))))))))))) = x
+statement_of (inr (inr (inr (inr (inr (inr (inr (inr (inr (inr (inr (inr (inl x))))))))))))) = statement.Accept x
+statement_of (inr (inr (inr (inr (inr (inr (inr (inr (inr (inr (inr (inr (inr x))))))))))))) = x
 
 abbrev pub if_of : Place → Assign → Statement × Option Statement → Statement
 if_of p c (s, None) = statement.If p c s
@@ -365,10 +377,10 @@ clauses_of (inr (l, None)) = clauses.Least l
 clauses_of (inr (l, Some s)) = clauses.LeastSuch l s
 
 abbrev pub choice_of : Value (rule the.choice) → Choice
-choice_of (inl v) = choice.Accept v.0 v.1
+choice_of (inl x) = x
 choice_of (inr (inl x)) = x
 choice_of (inr (inr (inl x))) = x
-choice_of (inr (inr (inr v))) = choice.Terminate v.0.place
+choice_of (inr (inr (inr x))) = x
 
 -- ---- expressions
 
@@ -427,8 +439,8 @@ selected n None = step.Field n
 selected n (Some xs) = step.Call n xs
 
 abbrev pub step_of : Value (rule the.step) → Step
-step_of (inl v) = selected (identifier v.1.0) v.1.1
-step_of (inr v) = step.Index v.1.0
+step_of (inl x) = x
+step_of (inr x) = x
 
 abbrev pub suffix_of : Token ⊎ Token → SuffixOperator
 suffix_of (inl t) = suffix_operator.Increment
@@ -441,12 +453,12 @@ named n (Some xs) = primary.Call n xs
 abbrev pub primary_of : Value (rule the.primary) → Primary
 primary_of (inl t) = primary.Number t.place (number_value t.what) (number_size t.what)
 primary_of (inr (inl t)) = primary.Character t.place (character_byte t.what)
-primary_of (inr (inr (inl v))) = named (identifier v.0) v.1
+primary_of (inr (inr (inl x))) = x
 primary_of (inr (inr (inr (inl x)))) = x
-primary_of (inr (inr (inr (inr (inl v))))) = primary.Putchar v.0.place v.1
-primary_of (inr (inr (inr (inr (inr (inl v)))))) = primary.Getchar v.0.place
+primary_of (inr (inr (inr (inr (inl x))))) = x
+primary_of (inr (inr (inr (inr (inr (inl x)))))) = x
 primary_of (inr (inr (inr (inr (inr (inr (inl x))))))) = x
-primary_of (inr (inr (inr (inr (inr (inr (inr v))))))) = primary.Parenthesised v.0.place v.1.0
+primary_of (inr (inr (inr (inr (inr (inr (inr x))))))) = x
 
 -- ---- the tree of each symbol
 
@@ -494,7 +506,10 @@ made the.local v = record { of = v.0; declarators = v.1.0 ∷ v.1.1.0 }
 made the.next_local_declarator v = v.1
 made the.local_declarator v = local_declarator_of (identifier v.0) v.1
 made the.initialiser v = v.1
-made the.statement v = simple_statement v
+made the.statement v = statement_of v
+made the.expression_statement v = statement.Expression v.0
+made the.break_statement v = statement.Break v.0.place
+made the.continue_statement v = statement.Continue v.0.place
 made the.if_statement v = if_of v.0.place v.1.0 v.1.1
 made the.condition v = v.1.0
 made the.branches v = (v.0, v.1)
@@ -522,6 +537,8 @@ made the.least v = v.1
 made the.alternative v = roll-Alternative (record { guard = v.0; choice = v.1 })
 made the.guard v = v.0
 made the.choice v = choice_of v
+made the.accept_choice v = choice.Accept v.0 v.1
+made the.terminate_choice v = choice.Terminate v.0.place
 made the.delay_choice v = choice.Delay v.0.place v.1.0 v.1.1.1
 made the.immediate_choice v = choice.Immediate v.0.place v.1.1
 made the.assign v = assign_of v
@@ -550,8 +567,14 @@ made the.unary v = unary_of v
 made the.prefix v = prefix_of v
 made the.postfix v = roll-Postfix (record { first = v.0; steps = v.1.0; suffix = v.1.1 })
 made the.step v = step_of v
+made the.selection v = selected (identifier v.1.0) v.1.1
+made the.index v = step.Index v.1.0
 made the.suffix v = suffix_of v
 made the.primary v = primary_of v
+made the.named v = named (identifier v.0) v.1
+made the.putchar v = primary.Putchar v.0.place v.1
+made the.getchar v = primary.Getchar v.0.place
+made the.parenthesised v = primary.Parenthesised v.0.place v.1.0
 made the.create v = primary.Create v.0.place (identifier v.1.0) v.1.1
 made the.printf v = primary.Printf v.0.place (format v.1.1.0) v.1.1.1.0
 made the.arguments v = listed v

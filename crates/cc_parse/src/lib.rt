@@ -1,6 +1,8 @@
 //! The grammar of the language: its phrases, what begins one, and what reading a list of tokens answers.
 #![tactic(auto)]
 
+mod cursor;
+mod expressions;
 mod fault;
 mod laws;
 mod tree;
