@@ -1,14 +1,14 @@
 -- The reader of each symbol follows its rule.
-use Rattle.std.proofs.Common.{◌≡◌, ℕ, zero, suc, ◌-◌, ◌<◌, ◌≤◌, Bool, true, false, List, [], ◌∷◌, length, Option, Some, None, inl, inr, refl, sym, ◌∙◌, ap, arith}
+use Rattle.std.proofs.Common.{◌≡◌, ℕ, zero, suc, ◌-◌, ◌<◌, List, [], ◌∷◌, length, refl, ◌∙◌, ap, arith}
 use Rattle.std.specs.Prelude.{if◌then◌else◌}
 use Rattle.cc_lex.specs.declared.token.Token.{Token}
 use Rattle.cc_parse.specs.Ebnf.{Ebnf, tok, seq, alt, many, opt, ref, nest}
 use Rattle.cc_parse.specs.Begins.{begins}
 use Rattle.cc_parse.specs.Grammar.{rule}
 use Rattle.cc_parse.specs.Kinds.{Kind}
-use Rattle.cc_parse.specs.Reading.{Outcome, Got, Bad, Deep, Answer, Reader, and_then, answered, at, expect, both, loop, read, ranked, level, symbol}
+use Rattle.cc_parse.specs.Reading.{Got, Bad, Deep, Answer, Reader, and_then, answered, at, loop, read, ranked, level, symbol}
 use Rattle.cc_parse.specs.Symbols.{Symbol}
-use Rattle.cc_parse.specs.Trees.{TreeOf, Value, made}
+use Rattle.cc_parse.specs.Trees.{TreeOf, made}
 use Rattle.cc_parse.proofs.Facts.{Plain, plain, rank_low}
 use Rattle.cc_parse.proofs.Tables.{rank}
 

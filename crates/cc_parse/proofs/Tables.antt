@@ -1,13 +1,13 @@
 -- The tables of the grammar, and one test of each symbol: that the tables are right, and that the rule is read with one token
 -- ahead.
 use Rattle.std.proofs.Common.{◌≡◌, ℕ, Bool, true, false, ◌||◌, ◌&&◌, not, List, [], ◌∷◌, ◌++◌, refl}
-use Rattle.std.specs.Prelude.{if◌then◌else◌, nat_lt, ◌==◌}
+use Rattle.std.specs.Prelude.{if◌then◌else◌, nat_lt}
 use Rattle.cc_lex.specs.declared.token.Mark.TheVariants as mark
 use Rattle.cc_lex.specs.declared.token.Word.TheVariants as word
 use Rattle.cc_parse.specs.Begins.{has, starts, nullable, empty, begins, entry_starts, item_starts, type_starts}
 use Rattle.cc_parse.specs.Ebnf.{Ebnf, tok, seq, alt, many, opt, ref, nest}
 use Rattle.cc_parse.specs.Grammar.{rule}
-use Rattle.cc_parse.specs.Kinds.{Kind, a_name, a_number, a_character, a_string, word_kind, mark_kind}
+use Rattle.cc_parse.specs.Kinds.{Kind, a_name, a_number, a_character, word_kind, mark_kind}
 use Rattle.cc_parse.specs.Symbols.{Symbol}
 use Rattle.cc_parse.specs.Symbols as the
 use Rattle.cc_parse.proofs.Basics.{within, apart}

@@ -1,9 +1,9 @@
 -- A loop that reads one after another.
-use Rattle.std.proofs.Common.{◌≡◌, ℕ, zero, suc, ◌+◌, ◌-◌, ◌<◌, ◌≤◌, Bool, true, false, List, [], ◌∷◌, ◌++◌, length, refl, ap, sym, ◌∙◌, append_assoc, arith}
+use Rattle.std.proofs.Common.{◌≡◌, ℕ, zero, suc, ◌+◌, ◌-◌, ◌<◌, Bool, true, false, List, [], ◌∷◌, ◌++◌, refl, ap, sym, ◌∙◌, append_assoc, arith}
 use Rattle.std.specs.Prelude.{if◌then◌else◌}
 use Rattle.cc_lex.specs.declared.token.Token.{Token}
 use Rattle.cc_parse.specs.Kinds.{Kind}
-use Rattle.cc_parse.specs.Reading.{Outcome, Got, Bad, Deep, Answer, Reader, and_then, answered, at, loop}
+use Rattle.cc_parse.specs.Reading.{Got, Bad, Deep, Answer, Reader, and_then, answered, at, loop}
 use Rattle.cc_parse.specs.Turns.{from}
 
 from_suc : {A : Type 0} (p : Reader A) (f : List Kind) (n : ℕ) (found : List A) (ws over : List Token) (x : A)

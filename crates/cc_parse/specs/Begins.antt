@@ -3,7 +3,7 @@ use Rattle.std.specs.Prelude.{Bool, true, false, ◌||◌, ◌&&◌, ◌==◌, i
 use Rattle.cc_lex.specs.declared.token.Mark.TheVariants as mark
 use Rattle.cc_lex.specs.declared.token.Word.TheVariants as word
 use Rattle.cc_parse.specs.Ebnf.{Ebnf, tok, seq, alt, many, opt, ref, nest}
-use Rattle.cc_parse.specs.Kinds.{Kind, a_name, a_number, a_character, a_string, word_kind, mark_kind}
+use Rattle.cc_parse.specs.Kinds.{Kind, a_name, a_number, a_character, word_kind, mark_kind}
 use Rattle.cc_parse.specs.Symbols.{Symbol}
 use Rattle.cc_parse.specs.Symbols as the
 

@@ -54,7 +54,6 @@ use Rattle.cc_parse.specs.declared.tree.Parameter.{Parameter}
 use Rattle.cc_parse.specs.declared.tree.Postfix.{Postfix, roll-Postfix}
 use Rattle.cc_parse.specs.declared.tree.Prefix.{Prefix}
 use Rattle.cc_parse.specs.declared.tree.PrefixOperator.TheVariants as prefix_operator
-use Rattle.cc_parse.specs.declared.tree.PrefixOperator.{PrefixOperator}
 use Rattle.cc_parse.specs.declared.tree.Primary.TheVariants as primary
 use Rattle.cc_parse.specs.declared.tree.Primary.{Primary}
 use Rattle.cc_parse.specs.declared.tree.Statement.TheVariants as statement
