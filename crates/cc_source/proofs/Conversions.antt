@@ -1,6 +1,6 @@
 -- The reading of a format, a byte at a time.
 use Rattle.std.proofs.Common.{◌≡◌, ℕ, ◌∷◌, List, [], refl}
-use Rattle.std.specs.Prelude.{if◌then◌else◌, nat_eq, ◌+◌, Option, Some, None}
+use Rattle.std.specs.Prelude.{if◌then◌else◌, nat_eq, ◌+◌, Some, None}
 use Rattle.cc_source.specs.Formats.{conversions, conversions_long, conversions_signed, is_conversion}
 
 pub read-Plain : (n b : ℕ) (rest : List ℕ) → conversions n (b ∷ rest) ≡ (if nat_eq b 37 then conversions_signed n rest else conversions n rest)

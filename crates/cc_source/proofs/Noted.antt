@@ -1,5 +1,5 @@
 -- The variables that a pure expression names, by the names that the code has.
-use Rattle.std.proofs.Common.{◌≡◌, ℕ, ◌+◌, ◌<◌, ℤ, suc, Bool, true, false, ◌&&◌, List, [], ◌∷◌, length, drop, get_or, nat_eq, refl, ap, ◌∙◌, arith}
+use Rattle.std.proofs.Common.{◌≡◌, ℕ, ◌+◌, ◌<◌, ℤ, suc, true, false, ◌&&◌, List, [], ◌∷◌, length, drop, get_or, nat_eq, refl, ap, ◌∙◌, arith}
 use Rattle.std.proofs.lemmas.List.{drop_all}
 use Rattle.cc_source.proofs.DataTypes.{and-false}
 use Rattle.cc_source.specs.ClauseLists.{comparisons_noted_in, operations_noted_in, row_noted_in}

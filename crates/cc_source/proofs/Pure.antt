@@ -1,5 +1,5 @@
 -- Which expressions are pure, by the names that the code has.
-use Rattle.std.proofs.Common.{◌≡◌, ℕ, ◌-◌, ℤ, Bool, true, false, ◌&&◌, List, [], ◌∷◌, refl, ap, ◌∙◌}
+use Rattle.std.proofs.Common.{◌≡◌, ℕ, ◌-◌, ℤ, false, ◌&&◌, List, refl, ap, ◌∙◌}
 use Rattle.std.specs.List.{list_all}
 use Rattle.std.specs.Prelude.{nat_lt}
 use Rattle.cc_source.specs.Clauses.{are_pure, are_pure_comparisons, are_pure_operations, is_pure, is_pure_place}

@@ -1,13 +1,16 @@
 -- The transactions of a typed program take few cells.
-use Rattle.std.proofs.Common.{◌≡◌, ℕ, ◌<◌, ◌≤◌, zero, suc, true, ◌&&◌, List, [], ◌∷◌, length, map, Some, None, subst, arith}
+use Rattle.std.proofs.Common.{◌≡◌, ℕ, ◌<◌, ◌≤◌, zero, suc, true, ◌&&◌, List, [], ◌∷◌, length, map, take, min, Some, None, refl, ap, ◌∙◌, subst, arith}
 use Rattle.std.specs.List.{list_all}
 use Rattle.std.specs.Prelude.{slice_get}
-use Rattle.std.proofs.lemmas.List.{length-map}
+use Rattle.std.proofs.lemmas.List.{length-map, length-take}
 use Rattle.std.proofs.lemmas.Bool.{leb-true}
 use Rattle.cc_source.specs.Conversions.{and-left, and-right}
-use Rattle.cc_source.specs.Projections.{passes-get}
+use Rattle.cc_source.specs.Projections.{kind-variables, passes-get}
+use Rattle.cc_source.specs.Straight.{is_straight_program}
+use Rattle.cc_source.specs.Unflats.{cells-all, types-take}
+use Rattle.cc_source.specs.declared.tree.Kind.{Kind}
 use Rattle.cc_source.specs.Parts.{Parts}
-use Rattle.cc_source.specs.Programs.{meaning, shape_of}
+use Rattle.cc_source.specs.Programs.{meaning, parameter_cells, shape_of}
 use Rattle.cc_source.specs.KnownTypes.{are_parameters, is_process_type}
 use Rattle.cc_source.specs.Typed.{are_typed_kinds, has_main, is_typed_function, is_typed_program, is_typed_transaction}
 use Rattle.cc_source.specs.Values.{cells_all}
@@ -35,5 +38,31 @@ shape-there p k lt e = go p.transactions k (subst (λ n. k < n) (length-map p.tr
     go [] k lt e = absurd (omega arith)
     go (x ∷ xs) zero lt e = cc
     go (x ∷ xs) (suc k) lt e = go xs k (omega arith) e
+
+pub kind-at : (p : Parts) (k : ℕ) (kind : Kind) → slice_get p.kinds k ≡ Some kind → slice_get (meaning p).kinds k ≡ Some (parameter_cells kind)
+kind-at p k kind e = go p.kinds k e
+  where
+    go : (ks : List Kind) (k : ℕ) → slice_get ks k ≡ Some kind → slice_get (map parameter_cells ks) k ≡ Some (parameter_cells kind)
+    go [] k e = cc
+    go (x ∷ xs) zero e = cc
+    go (x ∷ xs) (suc k) e = go xs k e
+
+pub straight-cells : (p : Parts) (k : ℕ) (kind : Kind) → is_straight_program p ≡ true → slice_get p.kinds k ≡ Some kind → parameter_cells kind ≡ min kind.parameters (length kind.variables)
+straight-cells p k kind straight e =
+    cells-all (take kind.parameters kind.variables) (types-take kind.variables kind.parameters (kind-variables p k kind straight e)) ∙ length-take kind.parameters kind.variables
+
+pub kind-none : (p : Parts) (k : ℕ) → slice_get p.kinds k ≡ None → slice_get (meaning p).kinds k ≡ None
+kind-none p k e = go p.kinds k e
+  where
+    go : (ks : List Kind) (k : ℕ) → slice_get ks k ≡ None → slice_get (map parameter_cells ks) k ≡ None
+    go [] zero e = refl
+    go [] (suc k) e = refl
+    go (x ∷ xs) zero e = cc
+    go (x ∷ xs) (suc k) e = go xs k e
+
+pub kind-is : (p : Parts) (k : ℕ) (kind : Kind) → is_straight_program p ≡ true → slice_get p.kinds k ≡ Some kind → slice_get (meaning p).kinds k ≡ Some (min kind.parameters (length kind.variables))
+kind-is p k kind straight e = kind-at p k kind e ∙ ap Some (straight-cells p k kind straight e)
+
+pub ruleset kinds = (kind-is, kind-none)
 
 pub ruleset shaping = (few-cells, shape-at, shape-there)

@@ -1,5 +1,5 @@
 -- Which statements are typed, by the names that the code has.
-use Rattle.std.proofs.Common.{◌≡◌, ℕ, Bool, true, false, not, ◌&&◌, ◌||◌, List, [], ◌∷◌, Option, refl, ap, ◌∙◌}
+use Rattle.std.proofs.Common.{◌≡◌, ℕ, true, false, not, ◌&&◌, ◌||◌, List, [], ◌∷◌, Option, refl, ap, ◌∙◌}
 use Rattle.std.specs.List.{list_all}
 use Rattle.std.specs.Prelude.{slice_get}
 use Rattle.cc_source.specs.Straight.{is_empty}
@@ -8,10 +8,10 @@ use Rattle.cc_source.specs.TypedLists.{is_typed_alternative}
 use Rattle.cc_source.specs.Types.{is_assignable, type_of}
 use Rattle.cc_source.specs.declared.tree.AcceptPart.{AcceptPart}
 use Rattle.cc_source.specs.declared.tree.Alternative.{Alternative}
-use Rattle.cc_source.specs.declared.tree.Choice.{Choice, Accept as AcceptChoice, Delay as DelayChoice, Immediate, Terminate}
+use Rattle.cc_source.specs.declared.tree.Choice.{Accept as AcceptChoice, Delay as DelayChoice, Immediate, Terminate}
 use Rattle.cc_source.specs.declared.tree.DataType.{DataType}
 use Rattle.cc_source.specs.declared.tree.Expression.{Expression}
-use Rattle.cc_source.specs.declared.tree.Statement.{Statement, Empty, Evaluate, Declare, Initialize, Block, If, IfElse, While, DoWhile, For, Break, Continue, Return, Finish, TransactionReturn, Delay, Accept, Select, Row_of-Statement, end_of-Statement, more_of-Statement, items-the_row-Statement, items_hidden-the_row-Statement-0, Row_of-Alternative, end_of-Alternative, more_of-Alternative, items-the_row-Alternative, items_hidden-the_row-Alternative-2}
+use Rattle.cc_source.specs.declared.tree.Statement.{Statement, Empty, Evaluate, Declare, Initialize, Block, If, IfElse, While, DoWhile, For, Break, Continue, Return, Finish, TransactionReturn, Delay, Accept, Select, Row_of-Statement, end_of-Statement, more_of-Statement, items-the_row-Statement, items_hidden-the_row-Statement-0}
 use Rattle.cc_source.specs.declared.tree.Choice.TheBlock as S
 use denote.Hole.Carrier.{hidden}
 

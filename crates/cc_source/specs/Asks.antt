@@ -1,14 +1,12 @@
 -- The statements of a straight typed program, and the program whole, ask only what is known.
 use Rattle.std.proofs.Common.{◌≡◌, ℕ, ◌<◌, ◌≤◌, ℤ, zero, suc, Bool, true, false, ◌&&◌, List, [], ◌∷◌, length, map, take, drop, Option, Some, None, refl, ap, sym, ◌∙◌, subst, arith}
 use Rattle.std.specs.List.{list_all}
-use Rattle.std.specs.Prelude.{slice_get, nat_le, nat_lt, if◌then◌else◌, is_some}
+use Rattle.std.specs.Prelude.{slice_get, nat_lt, if◌then◌else◌, is_some}
 use Rattle.std.proofs.lemmas.Bool.{eqb-true}
-use Rattle.std.proofs.lemmas.List.{length-map}
 use Rattle.std.proofs.lemmas.List.Elements.{All-cons, All-nil}
-use Rattle.cc_base.specs.Grants.{HasKind, IsProper}
-use Rattle.cc_base.specs.Served.{AsksServed}
 use Rattle.cc_base.specs.Outcome.{Left, Outcome, Through, Asked, Eval, ask, asked_by}
-use Rattle.cc_base.specs.Requests.{HasSites, IsAlternativeOf, IsAtSite, IsRequestOf, NamesSites, WellFormed}
+use Rattle.cc_base.specs.Served.{AsksServed}
+use Rattle.cc_base.specs.Requests.{HasSites, IsAlternativeOf, IsAtSite, WellFormed}
 use Rattle.cc_base.specs.Alternatives.{NumbersRise}
 use Rattle.cc_base.specs.declared.alternatives.Alt.{Alt}
 use Rattle.cc_base.specs.declared.names.FaultKind.TheVariants.{Cells}

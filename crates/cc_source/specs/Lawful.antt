@@ -1,5 +1,5 @@
 -- A straight program is fit for the machine.
-use Rattle.std.proofs.Common.{◌≡◌, ℕ, ◌≤◌, ℤ, Bool, true, false, ◌&&◌, List, length, None, refl, ap, ◌∙◌}
+use Rattle.std.proofs.Common.{◌≡◌, Bool, true, false, ◌&&◌, length, refl, ap, ◌∙◌}
 use Rattle.std.specs.Prelude.{if◌then◌else◌}
 use Rattle.cc_base.specs.Requests.{HasSites, WellFormed}
 use Rattle.cc_base.specs.Served.{AsksServed}

@@ -5,14 +5,12 @@ use Rattle.cc_source.specs.declared.clauses.Own.{Own}
 use Rattle.cc_source.specs.Clauses.{are_numbers, clause_noted, is_pure, most_depth}
 use Rattle.cc_source.specs.Formats.{conversions}
 use Rattle.cc_source.specs.KnownTypes.{are_parameters, is_known, is_process_type, is_whole}
-use Rattle.cc_source.specs.Meaning.{first_at, parameters_at, transaction_at, value_type_at}
+use Rattle.cc_source.specs.Meaning.{parameters_at, transaction_at, value_type_at}
 use Rattle.cc_source.specs.Numbers.{fits, is_arithmetic, is_int, is_long}
 use Rattle.cc_source.specs.Parts.{Parts}
 use Rattle.cc_source.specs.Phrases.{field, element, field_of, element_of, negate, not_of, plus, parenthesized, choose, assign, update, put_char, branch, branches, while_loop, do_loop, for_loop}
 use Rattle.cc_source.specs.Programs.{variables_of}
-use Rattle.cc_source.specs.Straight.{is_empty, is_nothing}
 use Rattle.cc_source.specs.Types.{element_type, fields_of, is_array, is_assignable, is_process, is_process_of, is_same, is_same_all, is_struct, is_void, type_at, type_of}
-use Rattle.cc_source.specs.declared.tree.Argument.{Argument}
 use Rattle.cc_source.specs.declared.tree.Choice.{Choice, Accept' as AcceptChoice', Delay as DelayChoice, Immediate, Terminate}
 use Rattle.cc_source.specs.declared.tree.Comparison.{Comparison}
 use Rattle.cc_source.specs.declared.tree.Comparison.TheVariants.{Less, AtMost, Greater, AtLeast, Equal, Different}

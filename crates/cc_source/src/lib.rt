@@ -28,3 +28,6 @@ pub use tree::{
     Function, Kind, Location, Operation, Operator, Site, Statement, Step, Transaction,
 };
 pub use value::Value;
+
+#[cfg(test)]
+mod tests;

@@ -588,6 +588,18 @@ impl Program {
         }
     }
 
+    /// How many cells the parameters of a kind have, where it exists.
+    #[tactic(auto, using(crate::proofs::Shapes::kinds))]
+    pub fn kind_cells(&self, kind: u32) -> Option<usize>
+        requires straight { is_straight_program self.now ≡ true }
+        ensures { result ≡ slice_get (meaning self.now).kinds kind }
+    {
+        match self.kinds.get(kind as usize) {
+            Some(found) => Some((found.parameters as usize).min(found.variables.len())),
+            None => None,
+        }
+    }
+
     /// What a transaction takes and gives.
     #[tactic(auto, using(crate::specs::Projections::straight_parts, crate::proofs::Shapes::shaping))]
     pub(crate) fn shape(&self, trans: u32) -> Shape

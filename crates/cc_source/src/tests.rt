@@ -1,0 +1,390 @@
+use crate::{
+    AcceptPart, Argument, DataType, Early, Expression, Grants, Kind, Location, Operation, Operator,
+    Program, ProgramParts, Site, Statement, Transaction,
+};
+use cc_base::{Behave, Cells, Grant, Memory, Pid, Request};
+use sqlite_items::{Boxed, Items};
+use std::alloc::{AllocError, Global};
+use std::rt::HostRuntime;
+use std::sync::Arc;
+
+/// The list of one item.
+fn one<T: Drop>(alloc: Global, item: T) -> Result<Items<T>, AllocError> {
+    let mut items = Items::new(alloc);
+    items.push(item)?;
+    Ok(items)
+}
+
+/// The list of two items.
+fn two<T: Drop>(alloc: Global, first: T, second: T) -> Result<Items<T>, AllocError> {
+    let mut items = one(alloc, first)?;
+    items.push(second)?;
+    Ok(items)
+}
+
+fn variable(number: u32, data_type: DataType) -> Expression {
+    Expression::Read {
+        from: Location::Variable { number, data_type },
+    }
+}
+
+fn number(value: i64, data_type: DataType) -> Expression {
+    Expression::Constant { value, data_type }
+}
+
+/// `putchar(e);`.
+fn print(alloc: Global, e: Expression) -> Result<Statement, AllocError> {
+    let value = Boxed::new(alloc, e)?;
+    Ok(Statement::Evaluate {
+        expression: Expression::PutChar { value },
+    })
+}
+
+/// `p.t(args)`, of variable 0 and transaction 0.
+fn call(
+    alloc: Global,
+    args: Items<Argument>,
+    data_type: DataType,
+) -> Result<Expression, AllocError> {
+    let process = Boxed::new(alloc, variable(0, DataType::Process { kind: 1 }))?;
+    Ok(Expression::Transact {
+        process,
+        transaction: 0,
+        args,
+        data_type,
+    })
+}
+
+/// `p = create s();`, of variable 0.
+fn create(alloc: Global) -> Result<Statement, AllocError> {
+    let made = Expression::CreateProcess {
+        kind: 1,
+        args: Items::new(alloc),
+    };
+    let value = Boxed::new(alloc, made)?;
+    let to = Location::Variable {
+        number: 0,
+        data_type: DataType::Process { kind: 1 },
+    };
+    Ok(Statement::Evaluate {
+        expression: Expression::Assign { to, value },
+    })
+}
+
+/// `process s p;`, of variable 0.
+fn declare() -> Statement {
+    Statement::Declare {
+        variable: 0,
+        data_type: DataType::Process { kind: 1 },
+    }
+}
+
+/// A kind without parameters and with one variable.
+fn kind(alloc: Global, data_type: DataType, body: Items<Statement>) -> Result<Kind, AllocError> {
+    let variables = one(alloc, data_type)?;
+    Ok(Kind {
+        parameters: 0,
+        variables,
+        body,
+    })
+}
+
+/// `accept t(x) { putchar(x); treturn 66; }`.
+fn server(alloc: Global) -> Result<Kind, AllocError> {
+    let reply = Statement::TransactionReturn {
+        value: Some(number(66, DataType::Int)),
+        data_type: DataType::Int,
+    };
+    let printed = print(alloc, variable(0, DataType::Int))?;
+    let block = two(alloc, printed, reply)?;
+    let accept = Statement::Accept {
+        part: AcceptPart { site: 0, block },
+    };
+    let body = one(alloc, accept)?;
+    kind(alloc, DataType::Int, body)
+}
+
+/// `putchar(p.t(65));`.
+fn print_call(alloc: Global) -> Result<Statement, AllocError> {
+    let argument = Argument {
+        value: number(65, DataType::Int),
+        data_type: DataType::Int,
+    };
+    let args = one(alloc, argument)?;
+    let called = call(alloc, args, DataType::Int)?;
+    print(alloc, called)
+}
+
+/// `process s p; p = create s(); putchar(p.t(65));`.
+fn client(alloc: Global) -> Result<Kind, AllocError> {
+    let created = create(alloc)?;
+    let mut body = two(alloc, declare(), created)?;
+    let printed = print_call(alloc)?;
+    body.push(printed)?;
+    kind(alloc, DataType::Process { kind: 1 }, body)
+}
+
+/// A transaction of kind 1 with the number 0.
+fn transaction(parameters: Items<DataType>, value: DataType) -> Transaction {
+    Transaction {
+        kind: 1,
+        is_async: false,
+        parameters,
+        value,
+    }
+}
+
+/// `process spec s() { trans int t(int a); }; process body s() { accept t(x) { putchar(x); treturn 66; } } main() {
+/// process s p; p = create s(); putchar(p.t(65)); }`.
+fn rendezvous(alloc: Global) -> Result<ProgramParts, AllocError> {
+    let main = client(alloc)?;
+    let other = server(alloc)?;
+    let kinds = two(alloc, main, other)?;
+    let parameters = one(alloc, DataType::Int)?;
+    let transactions = one(alloc, transaction(parameters, DataType::Int))?;
+    let sites = one(
+        alloc,
+        Site {
+            kind: 1,
+            transaction: 0,
+            first: 0,
+            environment: Items::new(alloc),
+            such_that: None,
+            least_by: None,
+        },
+    )?;
+    Ok(ProgramParts {
+        kinds,
+        functions: Items::new(alloc),
+        transactions,
+        sites,
+        formats: Items::new(alloc),
+    })
+}
+
+/// `process s p; p.t();`.
+fn caller(alloc: Global) -> Result<Kind, AllocError> {
+    let expression = call(alloc, Items::new(alloc), DataType::Void)?;
+    let body = two(alloc, declare(), Statement::Evaluate { expression })?;
+    kind(alloc, DataType::Process { kind: 1 }, body)
+}
+
+/// `process spec s() { trans void t(); }; process body s() { } main() { process s p; p.t(); }`.
+fn call_of_null(alloc: Global) -> Result<ProgramParts, AllocError> {
+    let main = caller(alloc)?;
+    let other = kind(alloc, DataType::Int, Items::new(alloc))?;
+    let kinds = two(alloc, main, other)?;
+    let transactions = one(alloc, transaction(Items::new(alloc), DataType::Void))?;
+    Ok(ProgramParts {
+        kinds,
+        functions: Items::new(alloc),
+        transactions,
+        sites: Items::new(alloc),
+        formats: Items::new(alloc),
+    })
+}
+
+/// These cells.
+fn cells(alloc: Global, numbers: &[i64]) -> Result<Cells, Memory> {
+    let mut cells = Cells::new(alloc);
+    for number in numbers {
+        cells.push(*number)?;
+    }
+    Ok(cells)
+}
+
+/// What a process of this kind asks after each of these grants, a line each; nothing where the parts are not typed.
+fn requests(
+    alloc: Global,
+    parts: Result<ProgramParts, AllocError>,
+    kind: u32,
+    next: Vec<Grant>,
+) -> Result<String, Memory> {
+    let mut text = String::new(alloc);
+    let Some(program) = Program::new(alloc, parts?)? else {
+        return Ok(text);
+    };
+    if !program.is_straight() || program.kind_cells(kind) != Some(0) {
+        return Ok(text);
+    }
+    let mut grants = Grants::new(alloc);
+    for grant in next {
+        grants.push(grant)?;
+        let asked = program.act_plain(alloc, kind, &Cells::new(alloc), &grants)?;
+        if writeln!(text, "{asked:?}").is_err() {
+            return Err(Memory);
+        }
+    }
+    Ok(text)
+}
+
+#[test]
+fn main_creates_calls_and_prints(rt: HostRuntime) {
+    let alloc = rt.alloc();
+    let value = cells(alloc, &[66]).expect(&rt, "memory");
+    let next = vec![in alloc;
+        Grant::Go,
+        Grant::Made(Pid(1)),
+        Grant::Value(value),
+        Grant::Go,
+    ];
+    let next = next.expect(&rt, "memory");
+    let asked = requests(alloc, rendezvous(alloc), 0, next).expect(&rt, "memory");
+    let want = "Create { kind: 1, args: Cells { items: [] } }
+Call { target: Pid(1), trans: 0, args: Cells { items: [65] } }
+Print { bytes: Bytes { items: [66] } }
+Done
+";
+    assert_eq!(rt; asked.as_str(), want);
+}
+
+#[test]
+fn the_server_accepts_prints_and_replies(rt: HostRuntime) {
+    let alloc = rt.alloc();
+    let args = cells(alloc, &[65]).expect(&rt, "memory");
+    let took = Grant::Took { alt: 0, args };
+    let next = vec![in alloc; Grant::Go, took, Grant::Go, Grant::Go].expect(&rt, "memory");
+    let asked = requests(alloc, rendezvous(alloc), 1, next).expect(&rt, "memory");
+    let want =
+        "Select { alts: Alts { items: [(0, Accept { trans: 0, site: 0, env: Cells { items: [] } })] } }
+Print { bytes: Bytes { items: [65] } }
+Reply { value: Cells { items: [66] } }
+Done
+";
+    assert_eq!(rt; asked.as_str(), want);
+}
+
+#[test]
+fn a_call_fits_with_its_number_of_cells(rt: HostRuntime) {
+    let alloc = rt.alloc();
+    let parts = rendezvous(alloc).expect(&rt, "memory");
+    let program = Program::new(alloc, parts).expect(&rt, "memory");
+    let program = program.expect(&rt, "typed");
+    assert!(rt; program.is_straight());
+    let none = Cells::new(alloc);
+    let args = cells(alloc, &[65]).expect(&rt, "memory");
+    let early = Early::new(program).expect(&rt, "straight");
+    assert_eq!(rt; early.fit(0, &none, &args), Some(0));
+    assert_eq!(rt; early.fit(1, &none, &args), None);
+    assert_eq!(rt; early.fit(0, &args, &args), None);
+    assert_eq!(rt; early.fit(0, &none, &none), None);
+}
+
+#[test]
+fn a_call_of_null_is_a_fault(rt: HostRuntime) {
+    let alloc = rt.alloc();
+    let next = vec![in alloc; Grant::Go].expect(&rt, "memory");
+    let asked = requests(alloc, call_of_null(alloc), 0, next).expect(&rt, "memory");
+    assert_eq!(rt; asked.as_str(), "Fault { kind: NullProcess }\n");
+}
+
+#[test]
+fn the_machine_runs_a_straight_program(rt: HostRuntime) {
+    let alloc = rt.alloc();
+    let parts = call_of_null(alloc).expect(&rt, "memory");
+    let program = Program::new(alloc, parts).expect(&rt, "memory");
+    let program = program.expect(&rt, "typed");
+    let early = Early::new(program).expect(&rt, "straight");
+    let early = Arc::new(alloc, early).expect(&rt, "memory");
+    let mut process = Early::start(&early, alloc, 0, Cells::new(alloc)).expect(&rt, "memory");
+    let asked = Early::go(&mut process, alloc, Grant::Go).expect(&rt, "memory");
+    assert!(rt; matches!(&asked, Request::Fault { .. }));
+}
+
+/// The parts of `main` with this body and one variable of type `int`.
+fn with_body(alloc: Global, body: Items<Statement>) -> Result<ProgramParts, AllocError> {
+    let main = kind(alloc, DataType::Int, body)?;
+    let kinds = one(alloc, main)?;
+    Ok(ProgramParts {
+        kinds,
+        functions: Items::new(alloc),
+        transactions: Items::new(alloc),
+        sites: Items::new(alloc),
+        formats: Items::new(alloc),
+    })
+}
+
+/// Whether `main` with this statement is typed.
+fn is_typed(alloc: Global, statement: Result<Statement, AllocError>) -> Result<bool, Memory> {
+    let body = one(alloc, statement?)?;
+    let parts = with_body(alloc, body)?;
+    Ok(Program::new(alloc, parts)?.is_some())
+}
+
+/// `x + 1L` with this type.
+fn sum(alloc: Global, data_type: DataType, row_type: DataType) -> Result<Statement, AllocError> {
+    let operation = Operation {
+        operator: Operator::Add,
+        operand: number(1, DataType::Long),
+        data_type,
+    };
+    let first = Boxed::new(alloc, variable(0, DataType::Int))?;
+    let rest = one(alloc, operation)?;
+    evaluate(Expression::Arithmetic {
+        first,
+        rest,
+        data_type: row_type,
+    })
+}
+
+/// `while (1) break;`.
+fn turn(alloc: Global) -> Result<Statement, AllocError> {
+    Ok(Statement::While {
+        condition: number(1, DataType::Int),
+        body: Boxed::new(alloc, Statement::Break)?,
+    })
+}
+
+/// A statement that is this expression.
+fn evaluate(expression: Expression) -> Result<Statement, AllocError> {
+    Ok(Statement::Evaluate { expression })
+}
+
+#[test]
+fn expressions_are_typed_or_not(rt: HostRuntime) {
+    let alloc = rt.alloc();
+    let fine = is_typed(alloc, sum(alloc, DataType::Long, DataType::Long));
+    assert!(rt; fine.expect(&rt, "memory"));
+    let narrow = is_typed(alloc, sum(alloc, DataType::Int, DataType::Int));
+    assert!(rt; !narrow.expect(&rt, "memory"));
+    let other = is_typed(alloc, sum(alloc, DataType::Long, DataType::Int));
+    assert!(rt; !other.expect(&rt, "memory"));
+    let missing = is_typed(alloc, evaluate(variable(1, DataType::Int)));
+    assert!(rt; !missing.expect(&rt, "memory"));
+    let large = is_typed(alloc, evaluate(number(5_000_000_000, DataType::Int)));
+    assert!(rt; !large.expect(&rt, "memory"));
+}
+
+#[test]
+fn statements_are_typed_or_not(rt: HostRuntime) {
+    let alloc = rt.alloc();
+    let inside = is_typed(alloc, turn(alloc));
+    assert!(rt; inside.expect(&rt, "memory"));
+    let outside = is_typed(alloc, Ok(Statement::Break));
+    assert!(rt; !outside.expect(&rt, "memory"));
+    let value = Some(number(5_000_000_000, DataType::Long));
+    let finish = is_typed(alloc, Ok(Statement::Finish { value }));
+    assert!(rt; finish.expect(&rt, "memory"));
+    let reply = is_typed(
+        alloc,
+        Ok(Statement::TransactionReturn {
+            value: None,
+            data_type: DataType::Void,
+        }),
+    );
+    assert!(rt; !reply.expect(&rt, "memory"));
+    let wait = is_typed(
+        alloc,
+        Ok(Statement::Delay {
+            wait: number(5, DataType::Int),
+        }),
+    );
+    assert!(rt; wait.expect(&rt, "memory"));
+    let select = is_typed(
+        alloc,
+        Ok(Statement::Select {
+            alternatives: Items::new(alloc),
+        }),
+    );
+    assert!(rt; !select.expect(&rt, "memory"));
+}
