@@ -27,7 +27,7 @@ BELOW = {
     "cc_pool": "cc_base cc_world cc_rules cc_kernel",
 }
 CASES = [("calls", 2_500), ("calls", 25_000), ("calls", 100_000), ("calls", 250_000)]
-CASES += [("program", 100), ("program", 200), ("program", 400)]
+CASES += [("program", 125), ("program", 250), ("program", 500)]
 
 
 def build(folder):

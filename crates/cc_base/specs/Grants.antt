@@ -19,7 +19,7 @@ HasKind m kind cells = slice_get m.kinds kind ≡ Some cells
 abbrev pub argument_cells : Meaning → ℕ → Option ℕ
 argument_cells m trans = option_map (λ (shape : Shape). shape.args) (slice_get m.shapes trans)
 
--- the value cells of a transaction
+-- the value cells of a transaction, 0 where there is none of this number
 abbrev pub value_cells : Meaning → ℕ → ℕ
 value_cells m trans = option_map_or (λ (shape : Shape). shape.value) (slice_get m.shapes trans) 0
 

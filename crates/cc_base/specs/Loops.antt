@@ -7,7 +7,7 @@ use Rattle.cc_base.specs.declared.request.Request.TheVariants.{Pause}
 abbrev pub turn : {S A : Type 0} → (Eval S A → Eval S A) → Eval S A → Eval S A
 turn body next = tick >>= (λ _. body next)
 
--- the turns of a loop, of which no more than n have a tick: the tick after those asks Pause and finds no grant
+-- the turns of a loop, at most n of them; where n is all that can be spent, the tick after those asks Pause and finds no grant
 unfoldable pub turns : {S A : Type 0} → ℕ → (Eval S A → Eval S A) → Eval S A
 turns zero body = stop Pause
 turns (suc n) body = turn body (turns n body)

@@ -9,7 +9,8 @@ pub record Left : Type 0 where
   pub grants : List Grant
   pub ticks : ℕ
 
--- it is through, with a value, the variables and what is left; or it has asked, and no grant was left
+-- it is through, with a value, the variables and what is left; or it has asked what no grant answers: none was left, or it
+-- is a fault
 pub data Outcome (S A : Type 0) : Type 0 where
   Through : A → S → Left → Outcome S A
   Asked : Request → Outcome S A

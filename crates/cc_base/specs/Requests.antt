@@ -64,8 +64,8 @@ NamesSites sites Get = Unit {0}
 NamesSites sites Done = Unit {0}
 NamesSites sites (Fault kind) = Unit {0}
 
--- the program has this many accept sites: what a process of a kind that exists asks after proper grants names no other,
--- and no call fits another
+-- what a process of a kind that exists asks after proper grants names no accept site beyond this many, and no call fits
+-- one beyond them
 pub record HasSites (m : Meaning) (sites : ℕ) : Type 0 where
   pub names :
       (kind : ℕ) (args : List ℤ) (grants : List Grant)

@@ -21,7 +21,7 @@ IsOneAccept [] = ⊥
 IsOneAccept (a ∷ []) = IsAccept a.1
 IsOneAccept (a ∷ b ∷ alts) = ⊥
 
--- the request has no deadline and no choice, and whoever calls waits for the answer
+-- the request has no deadline, is no asynchronous call, and no select but of one accept
 abbrev pub IsServed : Request → Type 0
 IsServed Pause = Unit {0}
 IsServed (Create kind args) = Unit {0}

@@ -45,7 +45,7 @@ cause_of status =
 abbrev pub report_of : ℕ → List ℕ
 report_of status = option_map_or line_at (cause_of status) []
 
--- what becomes of the command where its run went no further for this cause
+-- how a run is answered that stopped so
 abbrev pub answer_of : Stop → Result (Unit {0}) Cause
 answer_of Over = Result.Ok tt
 answer_of stop.Write = Result.Err Write

@@ -169,7 +169,7 @@ pub fn command_one<H: Shelf, S: Source, K: Sink, E: Sink, C: Clock>(
     ensures write { result.status ≡ 8 → IfSome (file_asked words.now) (λ file.
         HoldsProgram (H.files shelf.old) file (λ bytes. StopsAtTheSink bytes result.journal.items (K.held out) (K.held result.out))) }
 
-    // 9: before a run began, or within one, of which a first part was printed.
+    // 9: before a run began, or within one, of whose bytes a first part was printed, or all.
     ensures memory { result.status ≡ 9 → (result.journal.items ≡ []) × (K.held result.out ≡ K.held out)
         ⊎ IfSome (file_asked words.now) (λ file.
         HoldsProgram (H.files shelf.old) file (λ bytes. StopsForMemory bytes result.journal.items (K.held out) (K.held result.out))) }

@@ -146,14 +146,17 @@ fn idle(alloc: Global) -> Kind {
 
 /// The sites of the accept of `server`.
 fn sites(alloc: Global) -> Result<Items<Site>, Memory> {
-    one(alloc, Site {
-        kind: 1,
-        transaction: 0,
-        first: 0,
-        environment: Items::new(alloc),
-        such_that: None,
-        least_by: None,
-    })
+    one(
+        alloc,
+        Site {
+            kind: 1,
+            transaction: 0,
+            first: 0,
+            environment: Items::new(alloc),
+            such_that: None,
+            least_by: None,
+        },
+    )
 }
 
 /// `process spec s() { trans int t(int a); };` and these bodies of `main` and `s`.

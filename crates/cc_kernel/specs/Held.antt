@@ -72,7 +72,7 @@ IsEnoughFor prepared (Fault kind) = prepared ≡ Step
 abbrev pub IsPreparedFor : {B : Type 0} → Held B → Request → Type 0
 IsPreparedFor held r = IsEnoughFor held.prepared r
 
--- what was made for the next step is there, and there is room for it
+-- there is room for the events, the calls and the process of one step
 abbrev pub HasRoom : {P : Type 0} → Kept P → ℕ → Type 0
 HasRoom kept events =
     (length kept.pending.items + 2 ≤ events)
@@ -80,6 +80,7 @@ HasRoom kept events =
     × (0 < kept.pending.spare)
     × (0 < kept.seats.spare)
 
+-- there is room for the next step, and what was made for it is right
 abbrev pub IsReadyFor : {P : Type 0} → Meaning → (P → ℕ → List ℤ → List Grant → Type 0) → Kept P → ℕ → Need P → Type 0
 IsReadyFor m located kept events need.Nothing = Unit {0}
 IsReadyFor m located kept events need.Step = HasRoom kept events

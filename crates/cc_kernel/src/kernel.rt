@@ -108,8 +108,8 @@ impl<B: Behave> Kernel<B> {
         Ok(())
     }
 
-    /// The process asks this, and goes on as the machine says. Then every call is taken that can be taken. Gives the bytes
-    /// of a Print.
+    /// The process asks this, and what comes of it is done. Then every call is taken that can be taken. Gives the bytes of a
+    /// Print.
     pub fn commit(&mut self, pid: Pid, process: B::Proc, request: Request) -> Bytes
         requires prepared { IsPreparedFor self.old request }
         requires out { IsOutWith (B.means self.old.code) (B.at self.old.code) self.old.input self.old.journal self.old.outs pid.0 process }

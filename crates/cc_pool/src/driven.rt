@@ -11,10 +11,10 @@ pub enum Stop {
     Memory,
 }
 
-/// A run that went as far as it did.
+/// What a run leaves.
 #[derive(Drop)]
 pub struct Driven<K> {
-    /// The sink, which was given what the run prints.
+    /// The sink, which took what the run prints, or a first part of it.
     pub out: K,
     /// The events of the run.
     pub journal: Journal,

@@ -14,7 +14,7 @@ pub record EndsWell (m : Meaning) (input : List ℕ) (events : List Event) : Typ
   pub complete : is_complete (state_after m input events) ≡ true
   pub no_fault : has_faulted (state_after m input events) ≡ false
 
--- what the process asks that has its turn after these events
+-- the bytes of what the process asks that has its turn after these events
 abbrev pub asked_bytes : Meaning → List ℕ → List Event → Pid → List ℕ
 asked_bytes m input events p = bytes_of (request_at m (state_after m input events) p)
 
