@@ -8,7 +8,8 @@ use Rattle.cc_command.specs.Program.{program_of, puts}
 use Rattle.cc_source.specs.Numbers.{fits, is_char, is_int, is_long}
 use Rattle.cc_source.specs.Straight.{is_straight, is_straight_program, is_straight_statement, is_straight_type}
 use Rattle.cc_source.specs.Typed.{Surroundings, is_typed, is_typed_program, is_typed_statement}
-use Rattle.cc_source.specs.Types.{type_of}
+use Rattle.cc_source.specs.KnownTypes.{is_known}
+use Rattle.cc_source.specs.Types.{is_array, is_void, type_of}
 use Rattle.cc_source.specs.declared.tree.DataType.{Int}
 use Rattle.cc_source.specs.declared.tree.Expression.TheBlock as E
 use Rattle.cc_source.specs.declared.tree.Statement.{Statement}
@@ -29,6 +30,7 @@ all-typed s (byte ∷ bytes) small =
     ap (λ b. b && list_all (is_typed_statement s) (map puts bytes)) first ∙ others
 
 pub program-typed : (bytes : List ℕ) → All (λ b. b ≤ 255) bytes → is_typed_program (program_of bytes) ≡ true
+unfolding is_void is_known is_array
 program-typed bytes small = rw (all-typed _ bytes small) refl
 
 straight-puts : (byte : ℕ) → is_straight_statement (puts byte) ≡ true

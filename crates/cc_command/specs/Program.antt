@@ -16,7 +16,7 @@ puts byte = Evaluate (PutChar (Constant (pos byte) Int))
 abbrev pub program_of : List ℕ → Parts
 program_of bytes =
     record {
-      kinds = record { parameters = 0; variables = []; body = map puts bytes } ∷ [];
+      kinds = record { parameters = 0; variables = []; result = Int; body = map puts bytes } ∷ [];
       functions = [];
       transactions = [];
       sites = [];

@@ -90,12 +90,18 @@ fn declare() -> Statement {
     }
 }
 
-/// A kind without parameters and with one variable.
-fn kind(alloc: Global, data_type: DataType, body: Items<Statement>) -> Result<Kind, Memory> {
+/// A kind of this type without parameters and with one variable.
+fn kind(
+    alloc: Global,
+    declared: DataType,
+    data_type: DataType,
+    body: Items<Statement>,
+) -> Result<Kind, Memory> {
     let variables = one(alloc, data_type)?;
     Ok(Kind {
         parameters: 0,
         variables,
+        result: declared,
         body,
     })
 }
@@ -117,7 +123,7 @@ fn client(alloc: Global) -> Result<Kind, Memory> {
     let mut body = two(alloc, declare(), created)?;
     let printed = put_answer(alloc)?;
     body.push(printed)?;
-    kind(alloc, server_type(), body)
+    kind(alloc, DataType::Int, server_type(), body)
 }
 
 /// `process body s() { accept t(x) { putchar(x); treturn 66; } }`
@@ -132,7 +138,7 @@ fn server(alloc: Global) -> Result<Kind, Memory> {
         part: AcceptPart { site: 0, block },
     };
     let body = one(alloc, accept)?;
-    kind(alloc, DataType::Int, body)
+    kind(alloc, DataType::Void, DataType::Int, body)
 }
 
 /// `process body s() { }`
@@ -140,6 +146,7 @@ fn idle(alloc: Global) -> Kind {
     Kind {
         parameters: 0,
         variables: Items::new(alloc),
+        result: DataType::Void,
         body: Items::new(alloc),
     }
 }
@@ -206,7 +213,7 @@ fn deserted(alloc: Global) -> Result<ProgramParts, Memory> {
 fn nobody(alloc: Global) -> Result<ProgramParts, Memory> {
     let expression = call(alloc, Items::new(alloc), DataType::Void)?;
     let body = two(alloc, declare(), Statement::Evaluate { expression })?;
-    let main = kind(alloc, server_type(), body)?;
+    let main = kind(alloc, DataType::Int, server_type(), body)?;
     let transaction = Transaction {
         kind: 1,
         is_async: false,

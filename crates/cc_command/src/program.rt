@@ -42,6 +42,7 @@ fn main_kind(alloc: Global, bytes: &[u8]) -> Result<Kind, Memory>
     Ok(Kind {
         parameters: 0,
         variables: Items::new(alloc),
+        result: DataType::Int,
         body,
     })
 }

@@ -13,3 +13,4 @@ pub mod TypedStatements
 pub mod Values
 pub mod Variants
 pub mod Weights
+pub mod PlaceReads

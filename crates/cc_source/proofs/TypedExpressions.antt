@@ -1,5 +1,5 @@
 -- Which expressions are typed, by the names that the code has.
-use Rattle.std.proofs.Common.{◌≡◌, ℕ, ◌+◌, ◌<◌, ℤ, suc, true, false, ◌&&◌, ◌||◌, List, [], ◌∷◌, length, drop, get_or, refl, ap, ◌∙◌, arith}
+use Rattle.std.proofs.Common.{not, ◌≡◌, ℕ, ◌+◌, ◌<◌, ℤ, suc, true, false, ◌&&◌, ◌||◌, List, [], ◌∷◌, length, drop, get_or, refl, ap, ◌∙◌, arith}
 use Rattle.std.proofs.lemmas.Int.{to_z-of_z}
 use Rattle.std.proofs.lemmas.List.{drop_all}
 use Rattle.std.specs.List.{list_all}
@@ -8,7 +8,7 @@ use Rattle.cc_source.proofs.DataTypes.{and-false}
 use Rattle.cc_source.specs.KnownTypes.{is_process_type}
 use Rattle.cc_source.specs.Meaning.{parameters_at}
 use Rattle.cc_source.specs.Numbers.{fits, is_arithmetic, is_int, is_long}
-use Rattle.cc_source.specs.Typed.{Surroundings, are_typed_comparisons, are_typed_numbers, are_typed_operands, are_typed_operations, are_typed_row, conversions_of, count_row, function_parameters, is_called, is_choice, is_comparable, is_count, is_element, is_function, is_number, is_of_type, is_sent, is_timed, is_typed, is_typed_place, is_wider, kind_parameters}
+use Rattle.cc_source.specs.Typed.{Surroundings, are_typed_comparisons, are_typed_numbers, are_typed_operands, are_typed_operations, are_typed_row, conversions_of, count_row, function_parameters, is_called, is_choice, is_comparable, is_count, is_element, is_function, is_number, is_of_type, is_place, is_sent, is_timed, is_typed, is_typed_place, is_wider, kind_parameters}
 use Rattle.cc_source.specs.TypedLists.{arguments_typed, comparisons_typed, operands_typed, operations_typed}
 use Rattle.cc_source.specs.Types.{fields_of, is_assignable, is_same, type_at, type_of}
 use Rattle.cc_source.specs.Unflats.{drop-at}
@@ -86,11 +86,11 @@ module _ (s : Surroundings) where
   unfolding is_typed
   typed-Read l = refl
 
-  pub typed-FieldOf : (e : Expression) (k : ℕ) (t : DataType) → is_typed s (FieldOf e k t) ≡ (is_typed s e && is_of_type (slice_get (fields_of (type_of e)) k) t)
+  pub typed-FieldOf : (e : Expression) (k : ℕ) (t : DataType) → is_typed s (FieldOf e k t) ≡ (not (is_place e) && is_typed s e && is_of_type (slice_get (fields_of (type_of e)) k) t)
   unfolding is_typed E.shape-the_row-Expression-0 E.hidden-the_row-Expression-0 hidden
   typed-FieldOf e k t = refl
 
-  pub typed-ElementOf : (e : Expression) (i : Expression) (t : DataType) → is_typed s (ElementOf e i t) ≡ (is_typed s e && is_element (type_of e) t && is_typed s i && is_arithmetic (type_of i))
+  pub typed-ElementOf : (e : Expression) (i : Expression) (t : DataType) → is_typed s (ElementOf e i t) ≡ (not (is_place e) && is_typed s e && is_element (type_of e) t && is_typed s i && is_arithmetic (type_of i))
   unfolding is_typed E.shape-the_row-Expression-0 E.hidden-the_row-Expression-0 hidden
   typed-ElementOf e i t = refl
 

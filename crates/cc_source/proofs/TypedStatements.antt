@@ -86,7 +86,7 @@ pub typed-Continue : (s : Surroundings) → is_typed_statement s Continue ≡ s.
 unfolding is_typed_statement
 typed-Continue s = refl
 
-pub typed-Return : (s : Surroundings) (e : Option Expression) (t : DataType) → is_typed_statement s (Return e t) ≡ (is_of_type s.result t && is_given s e t)
+pub typed-Return : (s : Surroundings) (e : Option Expression) (t : DataType) → is_typed_statement s (Return e t) ≡ (not (is_body s.kind) && is_of_type s.result t && is_given s e t)
 unfolding is_typed_statement
 typed-Return s e t = refl
 

@@ -1,7 +1,7 @@
 -- The statements of a straight typed program, and the program whole, ask only what is known.
-use Rattle.std.proofs.Common.{◌≡◌, ℕ, ◌<◌, ◌≤◌, ℤ, zero, suc, Bool, true, false, ◌&&◌, List, [], ◌∷◌, length, map, take, drop, Option, Some, None, refl, ap, sym, ◌∙◌, subst, arith}
+use Rattle.std.proofs.Common.{◌≡◌, ℕ, ◌<◌, ◌≤◌, ℤ, zero, suc, Bool, true, false, ◌&&◌, ◌||◌, List, [], ◌∷◌, length, map, take, drop, Option, Some, None, refl, ap, sym, ◌∙◌, subst, arith}
 use Rattle.std.specs.List.{list_all}
-use Rattle.std.specs.Prelude.{slice_get, nat_lt, if◌then◌else◌, is_some}
+use Rattle.std.specs.Prelude.{slice_get, nat_lt, if◌then◌else◌, is_some, nat_eq}
 use Rattle.std.proofs.lemmas.Bool.{eqb-true}
 use Rattle.std.proofs.lemmas.List.Elements.{All-cons, All-nil}
 use Rattle.cc_base.specs.Outcome.{Left, Outcome, Through, Asked, Eval, ask, asked_by}
@@ -24,9 +24,9 @@ use Rattle.cc_source.specs.Parts.{Parts}
 use Rattle.cc_source.specs.Phrases.{branch, branches, while_loop, do_loop, for_loop}
 use Rattle.cc_source.specs.Programs.{act, body, call, fit, left_at_start, meaning, most_calls, parameter_cells, shape_of, site_rank, variables_at_start}
 use Rattle.cc_source.specs.Straight.{are_straight_statements, is_straight_option, is_straight_program, is_straight_statement, is_straight_type, is_straight_value}
-use Rattle.cc_source.specs.KnownTypes.{is_process_type}
+use Rattle.cc_source.specs.KnownTypes.{is_process_type, is_whole}
 use Rattle.cc_source.specs.Typed.{Surroundings, are_typed_kinds, are_typed_statements, are_variables, has_main, is_accepted, is_given, is_of_kind, is_of_type, is_typed_function, is_typed_kind, is_typed_program, is_typed_site, is_typed_statement, is_typed_transaction}
-use Rattle.cc_source.specs.Types.{type_of}
+use Rattle.cc_source.specs.Types.{is_void, type_of}
 use Rattle.cc_source.specs.Values.{cells, cells_all, flat, unflats, zero_of}
 use Rattle.cc_source.specs.declared.flow.Flow.{Flow}
 use Rattle.cc_source.specs.declared.flow.Flow.TheVariants.{Ended, Broke, Continued, Returned, Replied, Finished}
@@ -103,15 +103,15 @@ module _ (p : Parts) (typed : is_typed_program p ≡ true) (straight : is_straig
         (λ g sc1 l1 s1 _. safe p Ended_so Ended_so (block (scope_taken p site g sc1) l1) _ (inner (scope_taken p site g sc1) l1 (taken-single site g sc1 s1))
         (λ flow sc2 l2 s2 _. safe p (λ g. Unit {0}) Ended_so (ask (request.Reply (reply_cells p site flow)) sc2 l2) _ (ask-safe p (request.Reply (reply_cells p site flow)) sc2 l2 s2 (tt, tt, tt)) (λ g sc3 l3 s3 _. (s3, tt))))
 
-    module _ (ts : List DataType) (kind : Option ℕ) where
+    module _ (ts : List DataType) (kind : Option ℕ) (result : Option DataType) where
       abbrev around : Option DataType → Surroundings
-      around replies = record { parts = p; variables = ts; kind = kind; result = None; replies = replies; in_loop = false }
+      around replies = record { parts = p; variables = ts; kind = kind; result = result; replies = replies; in_loop = false }
 
       given-safe : (replies : Option DataType) (e : Option Expression) (t : DataType) (sc : Scope) (l : Left) → is_straight_option e ≡ true → is_straight_value t ≡ true → is_given (around replies) e t ≡ true → Single sc → Safe p (λ v. Unit {0}) (given p call e t sc l)
       given-safe replies None t sc l se st h single = (single, tt)
       given-safe replies (Some e) t sc l se st h single =
           safe p (λ v. length (flat v) ≡ cells (type_of e)) (λ v. Unit {0}) (eval p call e sc l) (λ v. converted (type_of e) t v)
-          (eval-safe p call ts kind replies e sc l se (and-left _ _ h) single)
+          (eval-safe p call ts kind result replies e sc l se (and-left _ _ h) single)
           (λ v sc1 l1 s1 _. subst (λ o. Safe p (λ v. Unit {0}) o) (sym (converted-straight (type_of e) t v sc1 l1 (expression-straight e se) st)) (s1, tt))
 
       mutual
@@ -119,7 +119,7 @@ module _ (p : Parts) (typed : is_typed_program p ≡ true) (straight : is_straig
 
         exec-safe : (replies : Option DataType) (a : Statement) (sc : Scope) (l : Left) → is_straight_statement a ≡ true → is_typed_statement (around replies) a ≡ true → Single sc → Safe p Ended_so (exec p call a sc l)
         exec-safe replies Empty sc l s h single = (single, tt)
-        exec-safe replies (Evaluate e) sc l s h single = safe p (λ v. length (flat v) ≡ cells (type_of e)) Ended_so (eval p call e sc l) _ (eval-safe p call ts kind replies e sc l s h single) (λ v sc1 l1 s1 _. (s1, tt))
+        exec-safe replies (Evaluate e) sc l s h single = safe p (λ v. length (flat v) ≡ cells (type_of e)) Ended_so (eval p call e sc l) _ (eval-safe p call ts kind result replies e sc l s h single) (λ v sc1 l1 s1 _. (s1, tt))
         exec-safe replies (Declare x t) sc l s h single = (single-set sc x (zero_of t) single (zero-cells t (type-straight t s) ∙ one-cell t s), tt)
         exec-safe replies (Initialize x t e) sc l s h single = cc
         exec-safe replies (Block' _ all) sc l s h single = row-safe replies all sc l s h single
@@ -174,7 +174,7 @@ module _ (p : Parts) (typed : is_typed_program p ≡ true) (straight : is_straig
       go false =
           let j = kind-typed 0 p.kinds k kind kinds e in
           let vs = kind-variables p k kind straight e in
-          asked-known (exec_all p (call p most_calls (cells_all kind.variables)) kind.body (variables_at_start kind args) (left_at_start grants)) (λ flow. Unit {0}) (all-safe (call p most_calls (cells_all kind.variables)) kind.variables (Some j.0) kind.body (variables_at_start kind args) (left_at_start grants) (kind-body p k kind straight e) (and-right (are_variables p kind.parameters kind.variables) _ j.1)
+          asked-known (exec_all p (call p most_calls (cells_all kind.variables)) kind.body (variables_at_start kind args) (left_at_start grants)) (λ flow. Unit {0}) (all-safe (call p most_calls (cells_all kind.variables)) kind.variables (Some j.0) (Some kind.result) kind.body (variables_at_start kind args) (left_at_start grants) (kind-body p k kind straight e) (and-right (are_variables p kind.parameters kind.variables && (is_void kind.result || nat_eq j.0 0 && is_whole p kind.result)) _ j.1)
           (single-append (unflats (take kind.parameters kind.variables) args) _ (unflats-single (take kind.parameters kind.variables) args (types-take kind.variables kind.parameters vs)) (zeros-single (drop kind.parameters kind.variables) (types-drop kind.variables kind.parameters vs))))
 
   asks-known : (kind : ℕ) (args : List ℤ) (grants : List Grant) → IsServable p (act p kind args grants)

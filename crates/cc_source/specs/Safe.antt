@@ -49,9 +49,9 @@ made-cells (grant.Took a cs) = refl
 made-cells (grant.Chose a) = refl
 made-cells (grant.Byte b) = refl
 
-module _ (p : Parts) (call : Caller) (ts : List DataType) (kind : Option ℕ) (replies : Option DataType) where
+module _ (p : Parts) (call : Caller) (ts : List DataType) (kind : Option ℕ) (result replies : Option DataType) where
   abbrev here : Surroundings
-  here = record { parts = p; variables = ts; kind = kind; result = None; replies = replies; in_loop = false }
+  here = record { parts = p; variables = ts; kind = kind; result = result; replies = replies; in_loop = false }
 
   -- a value with the cells of its type
   abbrev pub Fits : DataType → Value → Type 0

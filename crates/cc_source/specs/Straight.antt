@@ -1,4 +1,4 @@
--- Straight phrases and programs: no arithmetic, no branches, no loops, no functions, and no clauses of an accept.
+-- Straight phrases and programs: the simplest phrases of each kind, no function but `main`, and no clauses of an accept.
 use Rattle.std.specs.List.{list_all}
 use Rattle.std.specs.Prelude.{Bool, true, false, ◌&&◌, List, [], ◌∷◌, Option, Some, None}
 use Rattle.cc_source.specs.Numbers.{is_int}

@@ -111,6 +111,12 @@ unfoldable pub count_row : {n : _} → Row_of-Expression n → ℕ
 count_row end_of-Expression = 0
 count_row (more_of-Expression e rest) = suc (count_row rest)
 
+-- the expression is a place, also within parentheses
+unfoldable pub is_place : Expression → Bool
+is_place (Read l) = true
+is_place (parenthesized e t) = is_place e
+is_place _ = false
+
 module _ (s : Surroundings) where
   unfoldable mutual
     pub is_typed_place : Location → Bool
@@ -123,9 +129,9 @@ module _ (s : Surroundings) where
     is_typed (Constant n t) = is_int t && fits 31 n || is_long t && fits 63 n
     is_typed GetChar = true
     is_typed (Read l) = is_typed_place l
-    is_typed (field_of e k t) = is_typed e && is_of_type (slice_get (fields_of (type_of e)) k) t
+    is_typed (field_of e k t) = not (is_place e) && is_typed e && is_of_type (slice_get (fields_of (type_of e)) k) t
     is_typed (element_of e i t) =
-        is_typed e && is_element (type_of e) t && is_typed i && is_arithmetic (type_of i)
+        not (is_place e) && is_typed e && is_element (type_of e) t && is_typed i && is_arithmetic (type_of i)
     is_typed (negate e t) = is_typed e && is_arithmetic (type_of e) && is_wider (type_of e) Int t
     is_typed (not_of e) = is_typed e && is_arithmetic (type_of e)
     is_typed (plus e t) = is_typed e && is_arithmetic (type_of e) && is_wider (type_of e) Int t
@@ -174,13 +180,13 @@ module _ (s : Surroundings) where
     are_typed_operations u (more_of-Operation o b v rest) t =
         (is_typed b && is_arithmetic (type_of b) && is_wider u (type_of b) v) && are_typed_operations v rest t
 
-    -- comparisons, at least one, since the result is an `int`
+    -- comparisons, of which each but the first has an `int` on its left; a row without one is as its first operand, an `int`
     pub are_typed_comparisons : {n : _} → DataType → Row_of-Compared n → Bool
     are_typed_comparisons u end_of-Compared = is_int u
     are_typed_comparisons u (more_of-Compared c b rest) =
         (is_typed b && is_comparable c u (type_of b)) && are_typed_comparisons Int rest
 
-    -- the operands of `&&` or `||` after the first, at least one
+    -- the operands of `&&` or `||` after the first; a row without one is as its first operand, an `int`
     pub are_typed_operands : {n : _} → DataType → Row_of-Expression n → Bool
     are_typed_operands u end_of-Expression = is_int u
     are_typed_operands u (more_of-Expression b rest) =
@@ -215,10 +221,15 @@ module _ (s : Surroundings) where
   is_given None t = true
   is_given (Some e) t = is_typed e && is_assignable (type_of e) t
 
-  -- the value of `return` in `main`, which may be of any type that a value can be assigned to; a process body has none
+  -- a value of this type, where there is one
+  abbrev pub is_for : Option DataType → Expression → Bool
+  is_for None e = false
+  is_for (Some t) e = is_typed e && is_assignable (type_of e) t
+
+  -- the value of `return` in `main`, for the type of `main`; a process body has none, since nothing is assigned to `void`
   abbrev pub is_finish : Option Expression → Bool
   is_finish None = true
-  is_finish (Some e) = is_kind s.kind 0 && is_typed e && is_assignable (type_of e) (type_of e)
+  is_finish (Some e) = is_for s.result e
 
 -- a body, of `main` or of a process type
 abbrev pub is_body : Option ℕ → Bool
@@ -279,7 +290,7 @@ unfoldable mutual
       && is_typed_statement (inside_loop s) a
   is_typed_statement s Break = s.in_loop
   is_typed_statement s Continue = s.in_loop
-  is_typed_statement s (Return e t) = is_of_type s.result t && is_given s e t
+  is_typed_statement s (Return e t) = not (is_body s.kind) && is_of_type s.result t && is_given s e t
   is_typed_statement s (Finish e) = is_body s.kind && is_outside s.replies && is_finish s e
   is_typed_statement s (TransactionReturn e t) = is_of_type s.replies t && is_given s e t
   is_typed_statement s (Delay e) = is_number s e
@@ -310,7 +321,7 @@ unfoldable mutual
 
 abbrev pub in_kind : Parts → ℕ → Kind → Surroundings
 in_kind p number k =
-    record { parts = p; variables = k.variables; kind = Some number; result = None; replies = None; in_loop = false }
+    record { parts = p; variables = k.variables; kind = Some number; result = Some k.result; replies = None; in_loop = false }
 
 abbrev pub are_variables : Parts → ℕ → List DataType → Bool
 are_variables p parameters ts =
@@ -318,7 +329,9 @@ are_variables p parameters ts =
 
 abbrev pub is_typed_kind : Parts → ℕ → Kind → Bool
 is_typed_kind p number k =
-    are_variables p k.parameters k.variables && list_all (is_typed_statement (in_kind p number k)) k.body
+    are_variables p k.parameters k.variables
+    && (is_void k.result || nat_eq number 0 && is_whole p k.result)
+    && list_all (is_typed_statement (in_kind p number k)) k.body
 
 -- kinds from this number on
 abbrev pub are_typed_kinds : Parts → ℕ → List Kind → Bool

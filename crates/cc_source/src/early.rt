@@ -8,7 +8,9 @@ use std::alloc::Global;
 use std::marker::Model;
 use std::sync::Arc;
 
-/// A straight program: one without arithmetic, branches, loops, functions and clauses of an accept.
+/// A straight program: its types are `int` and process types (and `void` for transactions); its expressions are numbers,
+/// variables, parentheses, `create`, synchronous calls, `putchar` and `=` to a variable; its statements are `;`, expression
+/// statements, declarations without a value, blocks, accepts without clauses, and `treturn`; it has no function but `main`.
 #[derive(Drop)]
 pub struct Early(pub Program);
 

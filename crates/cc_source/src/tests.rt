@@ -79,12 +79,18 @@ fn declare() -> Statement {
     }
 }
 
-/// A kind without parameters and with one variable.
-fn kind(alloc: Global, data_type: DataType, body: Items<Statement>) -> Result<Kind, AllocError> {
+/// A kind of this type without parameters and with one variable.
+fn kind(
+    alloc: Global,
+    declared: DataType,
+    data_type: DataType,
+    body: Items<Statement>,
+) -> Result<Kind, AllocError> {
     let variables = one(alloc, data_type)?;
     Ok(Kind {
         parameters: 0,
         variables,
+        result: declared,
         body,
     })
 }
@@ -101,7 +107,7 @@ fn server(alloc: Global) -> Result<Kind, AllocError> {
         part: AcceptPart { site: 0, block },
     };
     let body = one(alloc, accept)?;
-    kind(alloc, DataType::Int, body)
+    kind(alloc, DataType::Void, DataType::Int, body)
 }
 
 /// `putchar(p.t(65));`.
@@ -121,7 +127,7 @@ fn client(alloc: Global) -> Result<Kind, AllocError> {
     let mut body = two(alloc, declare(), created)?;
     let printed = print_call(alloc)?;
     body.push(printed)?;
-    kind(alloc, DataType::Process { kind: 1 }, body)
+    kind(alloc, DataType::Int, DataType::Process { kind: 1 }, body)
 }
 
 /// A transaction of kind 1 with the number 0.
@@ -166,13 +172,13 @@ fn rendezvous(alloc: Global) -> Result<ProgramParts, AllocError> {
 fn caller(alloc: Global) -> Result<Kind, AllocError> {
     let expression = call(alloc, Items::new(alloc), DataType::Void)?;
     let body = two(alloc, declare(), Statement::Evaluate { expression })?;
-    kind(alloc, DataType::Process { kind: 1 }, body)
+    kind(alloc, DataType::Int, DataType::Process { kind: 1 }, body)
 }
 
 /// `process spec s() { trans void t(); }; process body s() { } main() { process s p; p.t(); }`.
 fn call_of_null(alloc: Global) -> Result<ProgramParts, AllocError> {
     let main = caller(alloc)?;
-    let other = kind(alloc, DataType::Int, Items::new(alloc))?;
+    let other = kind(alloc, DataType::Void, DataType::Int, Items::new(alloc))?;
     let kinds = two(alloc, main, other)?;
     let transactions = one(alloc, transaction(Items::new(alloc), DataType::Void))?;
     Ok(ProgramParts {
@@ -293,7 +299,7 @@ fn the_machine_runs_a_straight_program(rt: HostRuntime) {
 
 /// The parts of `main` with this body and one variable of type `int`.
 fn with_body(alloc: Global, body: Items<Statement>) -> Result<ProgramParts, AllocError> {
-    let main = kind(alloc, DataType::Int, body)?;
+    let main = kind(alloc, DataType::Int, DataType::Int, body)?;
     let kinds = one(alloc, main)?;
     Ok(ProgramParts {
         kinds,
@@ -365,6 +371,9 @@ fn statements_are_typed_or_not(rt: HostRuntime) {
     let value = Some(number(5_000_000_000, DataType::Long));
     let finish = is_typed(alloc, Ok(Statement::Finish { value }));
     assert!(rt; finish.expect(&rt, "memory"));
+    let value = Some(variable(0, DataType::Process { kind: 1 }));
+    let other = is_typed(alloc, Ok(Statement::Finish { value }));
+    assert!(rt; !other.expect(&rt, "memory"));
     let reply = is_typed(
         alloc,
         Ok(Statement::TransactionReturn {

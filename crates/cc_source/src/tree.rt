@@ -369,11 +369,12 @@ pub struct Function {
 }
 
 /// A kind of process, of which `main` is the first: how many parameters it has, the types of its variables, which begin
-/// with the parameters, and its body.
+/// with the parameters, the type that it is declared with, which is `void` for all but `main`, and its body.
 #[derive(Drop)]
 pub struct Kind {
     pub parameters: u32,
     pub variables: Items<DataType>,
+    pub result: DataType,
     pub body: Items<Statement>,
 }
 

@@ -4,7 +4,7 @@ ghost use Rattle.std.specs.Prelude.{◌≡◌, ◌&&◌, ◌||◌, length, slice
 ghost use Rattle.cc_source.specs.Checked.{around, meant, parts_of};
 ghost use Rattle.cc_source.specs.Meaning.{parameters_at};
 ghost use Rattle.cc_source.specs.Numbers.{fits, is_int, is_long};
-ghost use Rattle.cc_source.specs.Typed.{conversions_of, function_parameters, is_called, is_count, is_function, is_number, is_of_type, is_sent, is_timed, is_typed, is_typed_place, kind_parameters};
+ghost use Rattle.cc_source.specs.Typed.{conversions_of, function_parameters, is_called, is_count, is_function, is_number, is_of_type, is_sent, is_timed, is_typed, is_typed_place, kind_parameters, is_place as place};
 ghost use Rattle.cc_source.specs.Types.{type_of};
 ghost use Rattle.cc_source.specs.TypedLists.{arguments_typed, comparisons_typed, operands_typed, operations_typed};
 
@@ -46,6 +46,40 @@ fn constant_type(value: i64, t: &DataType) -> bool
 {
     let found = TypeOf::Written(t);
     found.is_int() && fits_int(value) || found.is_long() && fits_long(value)
+}
+
+/// Whether an expression is a place, also within parentheses.
+#[tactic(auto, using(crate::proofs::PlaceReads::places))]
+fn is_place(e: &Expression) -> bool
+    ensures { result ≡ place e.now }
+{
+    match e {
+        Expression::Read { .. } => true,
+        Expression::Parenthesized { operand, .. } => is_place(operand.get()),
+        Expression::Constant { .. }
+        | Expression::GetChar
+        | Expression::FieldOf { .. }
+        | Expression::ElementOf { .. }
+        | Expression::Negate { .. }
+        | Expression::Not { .. }
+        | Expression::Plus { .. }
+        | Expression::StepBefore { .. }
+        | Expression::StepAfter { .. }
+        | Expression::Arithmetic { .. }
+        | Expression::Compare { .. }
+        | Expression::Both { .. }
+        | Expression::Either { .. }
+        | Expression::Choose { .. }
+        | Expression::Assign { .. }
+        | Expression::Update { .. }
+        | Expression::CallFunction { .. }
+        | Expression::CreateProcess { .. }
+        | Expression::Transact { .. }
+        | Expression::SendTo { .. }
+        | Expression::Within { .. }
+        | Expression::PutChar { .. }
+        | Expression::PrintFormat { .. } => false,
+    }
 }
 
 impl<'p> Standing<'p> {
@@ -200,13 +234,15 @@ impl<'p> Standing<'p> {
                 value,
                 field,
                 data_type,
-            } => self.typed_expression(value.get())
+            } => !is_place(value.get())
+                && self.typed_expression(value.get())
                 && type_of(value.get()).has_field(*field, data_type),
             Expression::ElementOf {
                 value,
                 index,
                 data_type,
-            } => self.typed_expression(value.get())
+            } => !is_place(value.get())
+                && self.typed_expression(value.get())
                 && type_of(value.get()).has_element(data_type)
                 && self.typed_expression(index.get())
                 && type_of(index.get()).is_arithmetic(),

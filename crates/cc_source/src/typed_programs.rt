@@ -30,7 +30,7 @@ fn in_kind<'p>(parts: &'p ProgramParts, number: usize, kind: &'p Kind) -> Standi
         parts,
         variables: kind.variables.as_slice(),
         kind: Some(number),
-        result: None,
+        result: Some(&kind.result),
         replies: None,
         in_loop: false,
     }
@@ -40,6 +40,7 @@ fn typed_kind(parts: &ProgramParts, number: usize, kind: &Kind) -> bool
     ensures { result ≡ is_typed_kind (parts_of parts.now) number kind.now }
 {
     variable_types(parts, kind.parameters, kind.variables.as_slice())
+        && (void_type(&kind.result) || number == 0 && whole_type(parts, &kind.result))
         && in_kind(parts, number, kind).typed_statements(kind.body.as_slice())
 }
 

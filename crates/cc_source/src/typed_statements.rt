@@ -2,7 +2,7 @@ ghost use Rattle.std.specs.List.{list_all};
 ghost use Rattle.std.specs.Option.{option_copied};
 ghost use Rattle.std.specs.Prelude.{◌≡◌, ◌&&◌, slice_get, is_some, IfSome};
 ghost use Rattle.cc_source.specs.Checked.{around, parts_of};
-ghost use Rattle.cc_source.specs.Typed.{in_accept, inside_loop, is_accepted, is_body, is_finish, is_given, is_kind, is_number, is_number_option, is_of_type, is_outside, is_process_body, is_terminate, is_typed_choice, is_typed_option, is_typed_statement};
+ghost use Rattle.cc_source.specs.Typed.{in_accept, inside_loop, is_accepted, is_body, is_finish, is_for, is_given, is_number, is_number_option, is_of_type, is_outside, is_process_body, is_terminate, is_typed_choice, is_typed_option, is_typed_statement};
 ghost use Rattle.cc_source.specs.TypedLists.{is_typed_alternative};
 
 use crate::tree::{AcceptPart, Alternative, Choice, DataType, Expression, Statement};
@@ -67,12 +67,13 @@ impl<'p> Standing<'p> {
         }
     }
 
-    fn is_main(&self) -> bool
-        ensures { result ≡ is_kind self.now.kind 0 }
+    /// Whether this may be returned as a value of the type of the function or of `main`.
+    fn result_type(&self, e: &Expression) -> bool
+        ensures { result ≡ is_for (around self.now) (option_copied self.now.result) e.now }
     {
-        match self.kind {
+        match self.result {
             None => false,
-            Some(kind) => kind == 0,
+            Some(t) => self.typed_expression(e) && type_of(e).is_assignable(t),
         }
     }
 
@@ -94,7 +95,7 @@ impl<'p> Standing<'p> {
         }
         match value {
             None => true,
-            Some(e) => self.is_main() && self.typed_expression(e) && type_of(e).is_kept(),
+            Some(e) => self.result_type(e),
         }
     }
 
@@ -175,7 +176,8 @@ impl<'p> Standing<'p> {
                 && self.inside_loop().typed_statement(body.get()),
             Statement::Break => self.in_loop,
             Statement::Continue => self.in_loop,
-            Statement::Return { value, data_type } => same_as_option(&self.result, data_type)
+            Statement::Return { value, data_type } => self.kind.is_none()
+                && same_as_option(&self.result, data_type)
                 && self.given_type(value, data_type),
             Statement::Finish { value } => self.finish_type(value),
             Statement::TransactionReturn { value, data_type } => same_as_option(
