@@ -5,6 +5,7 @@ mod cursor;
 mod expressions;
 mod fault;
 mod laws;
+mod statements;
 mod tree;
 
 pub use fault::ParseError;
