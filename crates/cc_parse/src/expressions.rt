@@ -92,7 +92,7 @@ impl<A: Fn(Global, &mut Cursor<'_>, usize) -> Result<Assign, Stop>> Expressions<
     }
 
     #[tactic(auto, using(crate::proofs::Expand::sum_operator_is))]
-    fn sum_operator(&self, tokens: &mut Cursor<'_>) -> Result<SumOperator, Stop>
+    pub fn sum_operator(&self, tokens: &mut Cursor<'_>) -> Result<SumOperator, Stop>
         ensures { Reads (symbol self.now.room the.sum_operator tokens.old) result tokens.new }
     {
         if tokens.sees(sign(Mark::Plus)) {
