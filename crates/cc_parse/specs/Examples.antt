@@ -1,4 +1,5 @@
--- Lists of tokens, and what a parser is to answer to them. Above each stands its text.
+-- Lists of tokens, and what a parser is to answer to them. Above each stands its text, with `@` in front of the token at which
+-- the fault is, or at the end where the fault is behind the last token.
 use Rattle.std.specs.Prelude.{ℕ, zero, suc, pos, List, [], ◌∷◌, ◌++◌, Result, Ok, Err}
 use Rattle.cc_lex.specs.TokenList.{TokenList}
 use Rattle.cc_lex.specs.declared.token.Mark.{Mark}
@@ -18,12 +19,13 @@ pub data Seen : Type 0 where
   Fine : Seen
   SyntaxAt : ℕ → Seen
   TooDeepAt : ℕ → Seen
+  NoMemory : Seen
 
 abbrev pub seen : Result Tree ParseError → Seen
 seen (Ok tree) = Fine
 seen (Err (error.Syntax at place)) = SyntaxAt at
 seen (Err (error.TooDeep place)) = TooDeepAt place.column
-seen (Err error.Memory) = Fine
+seen (Err error.Memory) = NoMemory
 
 -- the tokens in one line, each with its number as its column
 abbrev pub placed : ℕ → List What → List Token

@@ -1,9 +1,9 @@
--- Functions that read phrases which add to the nesting.
+-- Functions that read phrases: those that add to the nesting, and those of a symbol.
 use Rattle.std.specs.Prelude.{ℕ, Result, List}
 use Rattle.std.specs.declared.alloc.Global.{Global}
 use denote.Ref.{MutBor}
 use Rattle.cc_lex.specs.declared.token.Token.{Token}
-use Rattle.cc_parse.specs.Reading.{level}
+use Rattle.cc_parse.specs.Reading.{level, symbol}
 use Rattle.cc_parse.specs.Steps.{Reads}
 use Rattle.cc_parse.specs.Symbols.{Symbol}
 use Rattle.cc_parse.specs.Trees.{TreeOf}
@@ -13,3 +13,8 @@ pub record Nests (s : Symbol) (room : ℕ) (pre : Global → MutBor (List Token)
     (post : Global → MutBor (List Token) → ℕ → Result (TreeOf s) Stop → MutBor (List Token) → Type 0) : Type 0 where
   pub callable : (alloc : Global) (old : MutBor (List Token)) → pre alloc old room
   pub reads : (alloc : Global) (old new : MutBor (List Token)) (r : Result (TreeOf s) Stop) → post alloc old room r new → Reads (level room s old.now) r new.now
+
+pub record Gives (s : Symbol) (room : ℕ) (pre : Global → MutBor (List Token) → ℕ → Type 0)
+    (post : Global → MutBor (List Token) → ℕ → Result (TreeOf s) Stop → MutBor (List Token) → Type 0) : Type 0 where
+  pub callable : (alloc : Global) (old : MutBor (List Token)) → pre alloc old room
+  pub reads : (alloc : Global) (old new : MutBor (List Token)) (r : Result (TreeOf s) Stop) → post alloc old room r new → Reads (symbol room s old.now) r new.now

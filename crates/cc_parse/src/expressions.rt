@@ -92,7 +92,7 @@ impl<A: Fn(Global, &mut Cursor<'_>, usize) -> Result<Assign, Stop>> Expressions<
     }
 
     #[tactic(auto, using(crate::proofs::Expand::sum_operator_is))]
-    fn sum_operator(&self, tokens: &mut Cursor<'_>) -> Result<SumOperator, Stop>
+    pub fn sum_operator(&self, tokens: &mut Cursor<'_>) -> Result<SumOperator, Stop>
         ensures { Reads (symbol self.now.room the.sum_operator tokens.old) result tokens.new }
     {
         if tokens.sees(sign(Mark::Plus)) {
@@ -171,7 +171,7 @@ impl<A: Fn(Global, &mut Cursor<'_>, usize) -> Result<Assign, Stop>> Expressions<
     }
 
     #[tactic(auto, using(crate::proofs::Expand::condition_is))]
-    fn condition(&self, tokens: &mut Cursor<'_>) -> Result<Assign, Stop>
+    pub fn condition(&self, tokens: &mut Cursor<'_>) -> Result<Assign, Stop>
         requires assigns { Nests the.assign self.now.room (A.pre self.now.assign) (A.post self.now.assign) }
         ensures { Reads (symbol self.now.room the.condition tokens.old) result tokens.new }
     {

@@ -5,6 +5,9 @@ mod cursor;
 mod expressions;
 mod fault;
 mod laws;
+mod nesting;
+mod statements;
+mod sums;
 mod tree;
 
 pub use fault::ParseError;

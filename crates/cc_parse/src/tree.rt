@@ -154,7 +154,7 @@ pub enum LocalDeclarator {
     Value(Identifier, Assign),
 }
 
-/// A statement, with the place of its first word or mark.
+/// A statement, with the place of its first word or mark, but for a block and an expression, which have none of their own.
 #[cycle(code)]
 #[derive(Drop)]
 pub enum Statement {
