@@ -17,15 +17,11 @@ import time
 
 TOP = pathlib.Path(__file__).resolve().parent.parent
 PROGRAM = os.environ.get("CCRUN", str(TOP / "crates" / "ccrun" / "out" / "ccrun"))
-MOST_BYTES = 1_048_576
 
 
-def longest_text(digits):
-    """The longest text of `putchar` statements whose numbers have this many digits, and how many they are."""
-    head, tail = "main(){", "}"
-    statement = "putchar(" + "255"[:digits] + ");"
-    count = (MOST_BYTES - len(head) - len(tail)) // len(statement)
-    return head + statement * count + tail, count
+def text_of(count):
+    """A text of so many `putchar` statements."""
+    return "main(){" + "putchar(255);" * count + "}"
 
 
 def run_once(words):
@@ -57,10 +53,9 @@ def main():
     print(f"{'command':<34}{'turns':>10}{'seconds':>10}{'turns/second':>14}{'MiB':>10}")
     with tempfile.TemporaryDirectory() as folder:
         measure("start-up: run examples/hi.cc", ["run", str(TOP / "examples" / "hi.cc")], 3, 2, runs)
-        for digits in (3, 1):
-            text, count = longest_text(digits)
-            path = pathlib.Path(folder) / f"prints{digits}.cc"
-            path.write_text(text)
+        for count in (1_000, 2_000, 4_000):
+            path = pathlib.Path(folder) / f"prints{count}.cc"
+            path.write_text(text_of(count))
             measure(f"run {count:,} statements", ["run", str(path)], count + 1, count, runs)
 
 
