@@ -22,7 +22,8 @@ BELOW = {
     "cc_base": "",
     "cc_world": "cc_base",
     "cc_rules": "cc_base",
-    "cc_source": "cc_base sqlite_items",
+    "cc_typed": "cc_base sqlite_items",
+    "cc_source": "cc_base cc_typed sqlite_items",
     "cc_kernel": "cc_base cc_rules",
     "cc_pool": "cc_base cc_world cc_rules cc_kernel",
 }

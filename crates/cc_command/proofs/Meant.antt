@@ -12,8 +12,8 @@ use Rattle.cc_command.specs.Program.{program_of, puts}
 use Rattle.cc_rules.specs.Alike.{AreAlike}
 use Rattle.cc_source.specs.Lists.{exec_all}
 use Rattle.cc_source.specs.Meaning.{Caller, Scope, eval, exec}
-use Rattle.cc_source.specs.Parts.{Parts}
-use Rattle.cc_source.specs.declared.tree.Expression.TheBlock as E
+use Rattle.cc_typed.specs.Parts.{Parts}
+use Rattle.cc_typed.specs.declared.tree.Expression.TheBlock as E
 use denote.Hole.Carrier.{hidden}
 use Rattle.cc_source.specs.Programs.{act, call, fit, meaning}
 

@@ -6,7 +6,7 @@ use Rattle.std.specs.FinMap as map
 use Rattle.cc_command.specs.Form.{IsProgram}
 use Rattle.cc_command.specs.Outcomes.{HoldsNoProgram, HoldsProgram, HoldsText}
 use Rattle.cc_command.specs.Program.{IsText, program_of}
-use Rattle.cc_source.specs.Parts.{Parts}
+use Rattle.cc_typed.specs.Parts.{Parts}
 use Rattle.cc_world.specs.Shelf.{Files, IsStartOf}
 
 contents_of : (got : Option (List ℕ)) (text : List ℕ) → option_map (λ c. take 1048577 c) got ≡ Some text → (c : List ℕ) × (got ≡ Some c) × (take 1048577 c ≡ text)

@@ -5,14 +5,14 @@ use Rattle.std.specs.List.{list_all}
 use Rattle.std.specs.Prelude.{All}
 use Rattle.std.proofs.lemmas.List.Elements.{All-head, All-tail}
 use Rattle.cc_command.specs.Program.{program_of, puts}
-use Rattle.cc_source.specs.Numbers.{fits, is_char, is_int, is_long}
+use Rattle.cc_typed.specs.Numbers.{fits, is_char, is_int, is_long}
 use Rattle.cc_source.specs.Straight.{is_straight, is_straight_program, is_straight_statement, is_straight_type}
-use Rattle.cc_source.specs.Typed.{Surroundings, is_typed, is_typed_program, is_typed_statement}
-use Rattle.cc_source.specs.KnownTypes.{is_known}
-use Rattle.cc_source.specs.Types.{is_array, is_void, type_of}
-use Rattle.cc_source.specs.declared.tree.DataType.{Int}
-use Rattle.cc_source.specs.declared.tree.Expression.TheBlock as E
-use Rattle.cc_source.specs.declared.tree.Statement.{Statement}
+use Rattle.cc_typed.specs.Typed.{Surroundings, is_typed, is_typed_program, is_typed_statement}
+use Rattle.cc_typed.specs.KnownTypes.{is_known}
+use Rattle.cc_typed.specs.Types.{is_array, is_void, type_of}
+use Rattle.cc_typed.specs.declared.tree.DataType.{Int}
+use Rattle.cc_typed.specs.declared.tree.Expression.TheBlock as E
+use Rattle.cc_typed.specs.declared.tree.Statement.{Statement}
 use denote.Hole.Carrier.{hidden}
 
 fits-byte : (byte : ℕ) → byte ≤ 255 → fits 31 (pos byte) ≡ true

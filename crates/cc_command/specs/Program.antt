@@ -2,11 +2,11 @@
 use Rattle.std.specs.Prelude.{◌≡◌, ℕ, pos, List, [], ◌∷◌, map, None}
 use Rattle.cc_base.specs.Meaning.{Meaning}
 use Rattle.cc_command.specs.Form.{IsProgram}
-use Rattle.cc_source.specs.Parts.{Parts}
+use Rattle.cc_typed.specs.Parts.{Parts}
 use Rattle.cc_source.specs.Programs.{meaning}
-use Rattle.cc_source.specs.declared.tree.DataType.{Int}
-use Rattle.cc_source.specs.declared.tree.Expression.{Constant, PutChar}
-use Rattle.cc_source.specs.declared.tree.Statement.{Statement, Evaluate}
+use Rattle.cc_typed.specs.declared.tree.DataType.{Int}
+use Rattle.cc_typed.specs.declared.tree.Expression.{Constant, PutChar}
+use Rattle.cc_typed.specs.declared.tree.Statement.{Statement, Evaluate}
 
 -- `putchar(byte);`
 abbrev pub puts : ℕ → Statement

@@ -1,7 +1,7 @@
 ghost use Rattle.std.specs.Prelude.{◌≡◌, ◌≤◌, ◌∷◌, [], ℕ, List, All, pos, IfOk, IsErrOf};
-ghost use Rattle.cc_source.specs.declared.tree.DataType.{Int};
-ghost use Rattle.cc_source.specs.declared.tree.Expression.{Constant};
-ghost use Rattle.cc_source.specs.Checked.{parts_of};
+ghost use Rattle.cc_typed.specs.declared.tree.DataType.{Int};
+ghost use Rattle.cc_typed.specs.declared.tree.Expression.{Constant};
+ghost use Rattle.cc_typed.specs.Checked.{parts_of};
 ghost use Rattle.cc_command.specs.Form.{IsProgram};
 ghost use Rattle.cc_command.specs.Program.{IsText, program_of, puts};
 

@@ -1,12 +1,13 @@
 -- Accepts without clauses: a call fits where it has the number of cells.
 use Rattle.std.proofs.Common.{◌≡◌, ℕ, ℤ, pos, Bool, true, ◌&&◌, nat_eq, List, [], ◌∷◌, length, Option, Some, None, refl}
 use Rattle.std.specs.Prelude.{slice_get, if◌then◌else◌}
-use Rattle.cc_source.specs.Meaning.{parameters_at}
-use Rattle.cc_source.specs.Parts.{Parts}
+use Rattle.cc_typed.specs.Missing.{parameters_at}
+use Rattle.cc_typed.specs.Parts.{Parts}
 use Rattle.cc_source.specs.Programs.{fit, site_rank}
-use Rattle.cc_source.specs.Straight.{is_empty, is_nothing, is_straight_site}
-use Rattle.cc_source.specs.Values.{cells_all, zero_of}
-use Rattle.cc_source.specs.declared.tree.Site.{Site}
+use Rattle.cc_source.specs.Straight.{is_nothing, is_straight_site}
+use Rattle.cc_typed.specs.Sequences.{is_empty}
+use Rattle.cc_typed.specs.Values.{cells_all, zero_of}
+use Rattle.cc_typed.specs.declared.tree.Site.{Site}
 
 nothing : {X : Type 0} (o : Option X) (test : Option X → Bool) → test o ≡ true → Unit {0}
 nothing o test e = tt

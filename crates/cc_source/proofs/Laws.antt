@@ -5,22 +5,22 @@ use Rattle.cc_base.specs.declared.request.Request.TheVariants as request
 use Rattle.std.specs.Prelude.{set}
 use Rattle.cc_source.specs.Lists.{exec_all, values_of}
 use Rattle.cc_source.specs.Meaning.{Caller, Scope, accepted, arguments, eval, exec, exec_row, given, made, put_byte, stored, transacted, unless_left, value_at}
-use Rattle.cc_source.specs.Numbers.{converted}
-use Rattle.cc_source.specs.Parts.{Parts}
+use Rattle.cc_typed.specs.Numbers.{converted}
+use Rattle.cc_typed.specs.Parts.{Parts}
 use Rattle.cc_source.specs.Straight.{is_straight_place}
-use Rattle.cc_source.specs.Types.{root, type_at, type_of}
-use Rattle.cc_source.specs.Values.{flats, zero_of}
+use Rattle.cc_typed.specs.Types.{root, type_at, type_of}
+use Rattle.cc_typed.specs.Values.{flats, zero_of}
 use Rattle.cc_source.specs.declared.flow.Flow.{Flow}
 use Rattle.cc_source.specs.declared.flow.Flow.TheVariants.{Ended, Replied}
-use Rattle.cc_source.specs.declared.tree.AcceptPart.{AcceptPart}
-use Rattle.cc_source.specs.declared.tree.Argument.{Argument}
-use Rattle.cc_source.specs.declared.tree.DataType.{DataType}
-use Rattle.cc_source.specs.declared.tree.Expression.{Expression, Constant, Read, Parenthesized, Assign, CreateProcess, Transact, PutChar, Row_of-Argument, end_of-Argument, more_of-Argument, items-the_row-Argument, items_hidden-the_row-Argument-4}
-use Rattle.cc_source.specs.declared.tree.Expression.TheBlock as E
-use Rattle.cc_source.specs.declared.tree.Location.{Location, Variable, Field', Element'}
-use Rattle.cc_source.specs.declared.tree.Statement.{Statement, Empty, Evaluate, Declare, Block, Accept, TransactionReturn, Row_of-Statement, end_of-Statement, more_of-Statement, items-the_row-Statement, items_hidden-the_row-Statement-0}
-use Rattle.cc_source.specs.declared.tree.Choice.TheBlock as S
-use Rattle.cc_source.specs.declared.value.Value.{Value, Number}
+use Rattle.cc_typed.specs.declared.tree.AcceptPart.{AcceptPart}
+use Rattle.cc_typed.specs.declared.tree.Argument.{Argument}
+use Rattle.cc_typed.specs.declared.tree.DataType.{DataType}
+use Rattle.cc_typed.specs.declared.tree.Expression.{Expression, Constant, Read, Parenthesized, Assign, CreateProcess, Transact, PutChar, Row_of-Argument, end_of-Argument, more_of-Argument, items-the_row-Argument, items_hidden-the_row-Argument-4}
+use Rattle.cc_typed.specs.declared.tree.Expression.TheBlock as E
+use Rattle.cc_typed.specs.declared.tree.Location.{Location, Variable, Field', Element'}
+use Rattle.cc_typed.specs.declared.tree.Statement.{Statement, Empty, Evaluate, Declare, Block, Accept, TransactionReturn, Row_of-Statement, end_of-Statement, more_of-Statement, items-the_row-Statement, items_hidden-the_row-Statement-0}
+use Rattle.cc_typed.specs.declared.tree.Choice.TheBlock as S
+use Rattle.cc_typed.specs.declared.value.Value.{Value, Number}
 use denote.Hole.Carrier.{hidden}
 
 module _ (p : Parts) (call : Caller) where

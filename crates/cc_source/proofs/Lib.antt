@@ -1,16 +1,7 @@
-pub mod Conversions
-pub mod DataTypes
-pub mod ExpressionTypes
 pub mod Fits
 pub mod Laws
-pub mod Noted
-pub mod Pure
 pub mod Shapes
 pub mod Straight
-pub mod TypedExpressions
-pub mod TypedPrograms
-pub mod TypedStatements
-pub mod Values
+pub mod StraightValues
 pub mod Variants
 pub mod Weights
-pub mod PlaceReads

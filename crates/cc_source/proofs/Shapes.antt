@@ -8,13 +8,13 @@ use Rattle.cc_source.specs.Conversions.{and-left, and-right}
 use Rattle.cc_source.specs.Projections.{kind-variables, passes-get}
 use Rattle.cc_source.specs.Straight.{is_straight_program}
 use Rattle.cc_source.specs.Unflats.{cells-all, types-take}
-use Rattle.cc_source.specs.declared.tree.Kind.{Kind}
-use Rattle.cc_source.specs.Parts.{Parts}
+use Rattle.cc_typed.specs.declared.tree.Kind.{Kind}
+use Rattle.cc_typed.specs.Parts.{Parts}
 use Rattle.cc_source.specs.Programs.{meaning, parameter_cells, shape_of}
-use Rattle.cc_source.specs.KnownTypes.{are_parameters, is_process_type}
-use Rattle.cc_source.specs.Typed.{are_typed_kinds, has_main, is_typed_function, is_typed_program, is_typed_transaction}
-use Rattle.cc_source.specs.Values.{cells_all}
-use Rattle.cc_source.specs.declared.tree.Transaction.{Transaction}
+use Rattle.cc_typed.specs.KnownTypes.{are_parameters, is_process_type}
+use Rattle.cc_typed.specs.Typed.{are_typed_kinds, has_main, is_typed_function, is_typed_program, is_typed_transaction}
+use Rattle.cc_typed.specs.Values.{cells_all}
+use Rattle.cc_typed.specs.declared.tree.Transaction.{Transaction}
 
 pub few-cells : (p : Parts) (k : ℕ) (t : Transaction) → is_typed_program p ≡ true → slice_get p.transactions k ≡ Some t → cells_all t.parameters ≤ 256
 few-cells p k t typed e =

@@ -1,22 +1,21 @@
 -- Which phrases are straight, by the names that the code has.
 use Rattle.std.proofs.Common.{◌≡◌, ℕ, ℤ, true, false, ◌&&◌, List, Option, refl, ap, ◌∙◌}
 use Rattle.std.specs.List.{list_all}
-use Rattle.cc_source.specs.Numbers.{is_int}
+use Rattle.cc_typed.specs.Numbers.{is_int}
 use Rattle.cc_source.specs.Straight.{is_straight, are_straight_row, is_straight_argument, is_straight_option, is_straight_place, is_straight_statement, are_straight_statements, is_straight_type, is_straight_value}
-use Rattle.cc_source.specs.Types.{type_at}
-use Rattle.cc_source.specs.declared.tree.AcceptPart.{AcceptPart}
-use Rattle.cc_source.specs.declared.tree.Alternative.{Alternative}
-use Rattle.cc_source.specs.declared.tree.Argument.{Argument}
-use Rattle.cc_source.specs.declared.tree.Compared.{Compared}
-use Rattle.cc_source.specs.declared.tree.DataType.{DataType}
-use Rattle.cc_source.specs.declared.tree.Expression.{Expression, Constant, GetChar, Read, FieldOf, ElementOf, Negate, Not, Plus, Parenthesized, StepBefore, StepAfter, Arithmetic, Compare, Both, Either, Choose, Assign, Update, CallFunction, CreateProcess, Transact, SendTo, Within, PutChar, PrintFormat, Row_of-Argument, end_of-Argument, more_of-Argument, items-the_row-Argument, items_hidden-the_row-Argument-4}
-use Rattle.cc_source.specs.declared.tree.Expression.TheBlock as E
-use Rattle.cc_source.specs.declared.tree.Location.{Location, Variable, Field, Element}
-use Rattle.cc_source.specs.declared.tree.Operation.{Operation}
-use Rattle.cc_source.specs.declared.tree.Operator.{Operator}
-use Rattle.cc_source.specs.declared.tree.Statement.{Statement, Empty, Evaluate, Declare, Initialize, Block, If, IfElse, While, DoWhile, For, Break, Continue, Return, Finish, TransactionReturn, Delay, Accept, Select, Row_of-Statement, end_of-Statement, more_of-Statement, items-the_row-Statement, items_hidden-the_row-Statement-0}
-use Rattle.cc_source.specs.declared.tree.Choice.TheBlock as S
-use Rattle.cc_source.specs.declared.tree.Step.{Step}
+use Rattle.cc_typed.specs.declared.tree.AcceptPart.{AcceptPart}
+use Rattle.cc_typed.specs.declared.tree.Alternative.{Alternative}
+use Rattle.cc_typed.specs.declared.tree.Argument.{Argument}
+use Rattle.cc_typed.specs.declared.tree.Compared.{Compared}
+use Rattle.cc_typed.specs.declared.tree.DataType.{DataType}
+use Rattle.cc_typed.specs.declared.tree.Expression.{Expression, Constant, GetChar, Read, FieldOf, ElementOf, Negate, Not, Plus, Parenthesized, StepBefore, StepAfter, Arithmetic, Compare, Both, Either, Choose, Assign, Update, CallFunction, CreateProcess, Transact, SendTo, Within, PutChar, PrintFormat, Row_of-Argument, end_of-Argument, more_of-Argument, items-the_row-Argument, items_hidden-the_row-Argument-4}
+use Rattle.cc_typed.specs.declared.tree.Expression.TheBlock as E
+use Rattle.cc_typed.specs.declared.tree.Location.{Location, Variable, Field, Element}
+use Rattle.cc_typed.specs.declared.tree.Operation.{Operation}
+use Rattle.cc_typed.specs.declared.tree.Operator.{Operator}
+use Rattle.cc_typed.specs.declared.tree.Statement.{Statement, Empty, Evaluate, Declare, Initialize, Block, If, IfElse, While, DoWhile, For, Break, Continue, Return, Finish, TransactionReturn, Delay, Accept, Select, Row_of-Statement, end_of-Statement, more_of-Statement, items-the_row-Statement, items_hidden-the_row-Statement-0}
+use Rattle.cc_typed.specs.declared.tree.Choice.TheBlock as S
+use Rattle.cc_typed.specs.declared.tree.Step.{Step}
 use denote.Hole.Carrier.{hidden}
 
 pub straight-GetChar : is_straight GetChar ≡ false
@@ -212,20 +211,6 @@ place-Element l e t = refl
 pub place-Variable : (x : ℕ) (t : DataType) → is_straight_place (Variable x t) ≡ is_straight_type t
 unfolding is_straight_place
 place-Variable x t = refl
-
-pub type_at-Variable : (x : ℕ) (t : DataType) → type_at (Variable x t) ≡ t
-unfolding type_at
-type_at-Variable x t = refl
-
-pub type_at-Field : (l : Location) (k : ℕ) (t : DataType) → type_at (Field l k t) ≡ t
-unfolding type_at E.hidden-the_row-Location-5 hidden
-type_at-Field l k t = refl
-
-pub type_at-Element : (l : Location) (e : Expression) (t : DataType) → type_at (Element l e t) ≡ t
-unfolding type_at E.hidden-the_row-Location-5 hidden
-type_at-Element l e t = refl
-
-pub ruleset place_types = (type_at-Variable, type_at-Field, type_at-Element)
 
 pub ruleset straight_expressions = (straight-Constant, straight-Read, straight-Parenthesized, straight-Assign, straight-PutChar, straight-CreateProcess, straight-Transact, straight-GetChar, straight-FieldOf, straight-ElementOf, straight-Negate, straight-Not, straight-Plus, straight-StepBefore, straight-StepAfter, straight-Arithmetic, straight-Compare, straight-Both, straight-Either, straight-Choose, straight-Update, straight-CallFunction, straight-SendTo, straight-Within, straight-PrintFormat)
 

@@ -2,14 +2,14 @@
 use Rattle.std.proofs.Common.{◌≡◌, ℕ, true, false, List, refl}
 use Rattle.std.proofs.Common.{ℤ}
 use Rattle.cc_source.specs.Conversions.{int-straight}
-use Rattle.cc_source.specs.Numbers.{is_char, is_int, is_long}
+use Rattle.cc_typed.specs.Numbers.{is_char, is_int, is_long}
 use Rattle.cc_source.specs.Straight.{is_straight_type, is_straight_value}
-use Rattle.cc_source.specs.declared.tree.DataType.{DataType, Void, Char, Int, Long, Process, Struct, Struct', Array, Array'}
-use Rattle.cc_source.specs.Types.{is_assignable, is_process, is_process_of, is_same, is_struct, is_void, type_at, type_of}
-use Rattle.cc_source.specs.declared.tree.Argument.{Argument}
-use Rattle.cc_source.specs.declared.tree.Expression.{Expression, Constant, Read, Parenthesized, Assign, CreateProcess, Transact, PutChar}
-use Rattle.cc_source.specs.declared.tree.Expression.TheBlock as E
-use Rattle.cc_source.specs.declared.tree.Location.{Location}
+use Rattle.cc_typed.specs.declared.tree.DataType.{DataType, Void, Char, Int, Long, Process, Struct, Struct', Array, Array'}
+use Rattle.cc_typed.specs.Types.{is_assignable, is_process, is_process_of, is_same, is_struct, is_void, type_at, type_of}
+use Rattle.cc_typed.specs.declared.tree.Argument.{Argument}
+use Rattle.cc_typed.specs.declared.tree.Expression.{Expression, Constant, Read, Parenthesized, Assign, CreateProcess, Transact, PutChar}
+use Rattle.cc_typed.specs.declared.tree.Expression.TheBlock as E
+use Rattle.cc_typed.specs.declared.tree.Location.{Location}
 use denote.Hole.Carrier.{hidden}
 
 pub type-Void : is_straight_type Void ≡ false

@@ -1,14 +1,14 @@
 -- A number that falls from a straight phrase to its parts.
 use Rattle.std.proofs.Common.{◌≡◌, ℕ, ◌+◌, ◌<◌, zero, suc, List, [], ◌∷◌, length, get_or, refl, ap, ◌∙◌, arith}
-use Rattle.cc_source.specs.Phrases.{parenthesized, assign, put_char}
-use Rattle.cc_source.specs.declared.tree.AcceptPart.{AcceptPart}
-use Rattle.cc_source.specs.declared.tree.Argument.{Argument}
-use Rattle.cc_source.specs.declared.tree.DataType.{DataType}
-use Rattle.cc_source.specs.declared.tree.Expression.{Expression, Parenthesized, Assign, CreateProcess, CreateProcess', Transact, Transact', PutChar, end_of-Expression, more_of-Expression, Row_of-Argument, end_of-Argument, more_of-Argument, items-the_row-Argument, items_hidden-the_row-Argument-4}
-use Rattle.cc_source.specs.declared.tree.Expression.TheBlock as E
-use Rattle.cc_source.specs.declared.tree.Location.{Location}
-use Rattle.cc_source.specs.declared.tree.Statement.{Statement, Block, Block', Accept, Accept', Row_of-Statement, end_of-Statement, more_of-Statement, items-the_row-Statement, items_hidden-the_row-Statement-0}
-use Rattle.cc_source.specs.declared.tree.Choice.TheBlock as S
+use Rattle.cc_typed.specs.Phrases.{parenthesized, assign, put_char}
+use Rattle.cc_typed.specs.declared.tree.AcceptPart.{AcceptPart}
+use Rattle.cc_typed.specs.declared.tree.Argument.{Argument}
+use Rattle.cc_typed.specs.declared.tree.DataType.{DataType}
+use Rattle.cc_typed.specs.declared.tree.Expression.{Expression, Parenthesized, Assign, CreateProcess, CreateProcess', Transact, Transact', PutChar, end_of-Expression, more_of-Expression, Row_of-Argument, end_of-Argument, more_of-Argument, items-the_row-Argument, items_hidden-the_row-Argument-4}
+use Rattle.cc_typed.specs.declared.tree.Expression.TheBlock as E
+use Rattle.cc_typed.specs.declared.tree.Location.{Location}
+use Rattle.cc_typed.specs.declared.tree.Statement.{Statement, Block, Block', Accept, Accept', Row_of-Statement, end_of-Statement, more_of-Statement, items-the_row-Statement, items_hidden-the_row-Statement-0}
+use Rattle.cc_typed.specs.declared.tree.Choice.TheBlock as S
 use denote.Hole.Carrier.{hidden}
 
 unfoldable mutual

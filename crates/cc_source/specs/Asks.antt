@@ -18,24 +18,25 @@ use Rattle.cc_source.specs.Projections.{kind-body, kind-variables, passes-get, t
 use Rattle.cc_source.specs.Safe.{eval-safe}
 use Rattle.cc_source.specs.Unflats.{types-drop, types-take}
 use Rattle.cc_source.specs.Lists.{exec_all}
-use Rattle.cc_source.specs.Meaning.{Caller, Scope, accepted, alternative_at, args_taken, eval, exec, exec_row, first_at, given, parameters_at, reply_cells, scope_taken, transaction_at, transaction_of, unless_left}
-use Rattle.cc_source.specs.Numbers.{converted}
-use Rattle.cc_source.specs.Parts.{Parts}
-use Rattle.cc_source.specs.Phrases.{branch, branches, while_loop, do_loop, for_loop}
+use Rattle.cc_source.specs.Meaning.{Caller, Scope, accepted, alternative_at, args_taken, eval, exec, exec_row, given, reply_cells, scope_taken, transaction_of, unless_left}
+use Rattle.cc_typed.specs.Missing.{first_at, parameters_at, transaction_at}
+use Rattle.cc_typed.specs.Numbers.{converted}
+use Rattle.cc_typed.specs.Parts.{Parts}
+use Rattle.cc_typed.specs.Phrases.{branch, branches, while_loop, do_loop, for_loop}
 use Rattle.cc_source.specs.Programs.{act, body, call, fit, left_at_start, meaning, most_calls, parameter_cells, shape_of, site_rank, variables_at_start}
 use Rattle.cc_source.specs.Straight.{are_straight_statements, is_straight_option, is_straight_program, is_straight_statement, is_straight_type, is_straight_value}
-use Rattle.cc_source.specs.KnownTypes.{is_process_type, is_whole}
-use Rattle.cc_source.specs.Typed.{Surroundings, are_typed_kinds, are_typed_statements, are_variables, has_main, is_accepted, is_given, is_of_kind, is_of_type, is_typed_function, is_typed_kind, is_typed_program, is_typed_site, is_typed_statement, is_typed_transaction}
-use Rattle.cc_source.specs.Types.{is_void, type_of}
-use Rattle.cc_source.specs.Values.{cells, cells_all, flat, unflats, zero_of}
+use Rattle.cc_typed.specs.KnownTypes.{is_process_type, is_whole}
+use Rattle.cc_typed.specs.Typed.{Surroundings, are_typed_kinds, are_typed_statements, are_variables, has_main, is_accepted, is_given, is_of_kind, is_of_type, is_typed_function, is_typed_kind, is_typed_program, is_typed_site, is_typed_statement, is_typed_transaction}
+use Rattle.cc_typed.specs.Types.{is_void, type_of}
+use Rattle.cc_typed.specs.Values.{cells, cells_all, flat, unflats, zero_of}
 use Rattle.cc_source.specs.declared.flow.Flow.{Flow}
 use Rattle.cc_source.specs.declared.flow.Flow.TheVariants.{Ended, Broke, Continued, Returned, Replied, Finished}
-use Rattle.cc_source.specs.declared.tree.DataType.{DataType}
-use Rattle.cc_source.specs.declared.tree.Expression.{Expression}
-use Rattle.cc_source.specs.declared.tree.Kind.{Kind}
-use Rattle.cc_source.specs.declared.tree.Site.{Site}
-use Rattle.cc_source.specs.declared.tree.Statement.{Statement, Empty, Evaluate, Declare, Initialize, Block', Break, Continue, Return, Finish, TransactionReturn, Delay, Accept', Select', Row_of-Statement, end_of-Statement, more_of-Statement}
-use Rattle.cc_source.specs.declared.tree.Transaction.{Transaction}
+use Rattle.cc_typed.specs.declared.tree.DataType.{DataType}
+use Rattle.cc_typed.specs.declared.tree.Expression.{Expression}
+use Rattle.cc_typed.specs.declared.tree.Kind.{Kind}
+use Rattle.cc_typed.specs.declared.tree.Site.{Site}
+use Rattle.cc_typed.specs.declared.tree.Statement.{Statement, Empty, Evaluate, Declare, Initialize, Block', Break, Continue, Return, Finish, TransactionReturn, Delay, Accept', Select', Row_of-Statement, end_of-Statement, more_of-Statement}
+use Rattle.cc_typed.specs.declared.tree.Transaction.{Transaction}
 
 below : {X : Type 0} (xs : List X) (k : ℕ) (x : X) → slice_get xs k ≡ Some x → k < length xs
 below [] zero x e = cc

@@ -2,14 +2,14 @@
 use Rattle.std.proofs.Common.{◌≡◌, Bool, true, false, ◌&&◌, refl}
 use Rattle.cc_base.specs.Outcome.{Left, Through}
 use Rattle.cc_source.specs.Meaning.{Scope}
-use Rattle.cc_source.specs.Numbers.{converted, is_char, is_int, is_long}
-use Rattle.cc_source.specs.Phrases.{field_of, element_of, negate, not_of, plus, parenthesized, choose, assign, update, put_char, field, element}
+use Rattle.cc_typed.specs.Numbers.{converted, is_char, is_int, is_long}
+use Rattle.cc_typed.specs.Phrases.{field_of, element_of, negate, not_of, plus, parenthesized, choose, assign, update, put_char, field, element}
 use Rattle.cc_source.specs.Straight.{is_straight, is_straight_place, is_straight_type, is_straight_value}
-use Rattle.cc_source.specs.Types.{type_at, type_of}
-use Rattle.cc_source.specs.declared.tree.DataType.{DataType, Void, Char, Int, Long, Process, Struct', Array'}
-use Rattle.cc_source.specs.declared.tree.Expression.{Expression, Constant, GetChar, Read, StepBefore, StepAfter, CallFunction', CreateProcess', Transact', SendTo', Within', PrintFormat', end_of-Expression, more_of-Expression, Arithmetic', Compare', Both', Either'}
-use Rattle.cc_source.specs.declared.tree.Location.{Location, Variable}
-use Rattle.cc_source.specs.declared.value.Value.{Value}
+use Rattle.cc_typed.specs.Types.{type_at, type_of}
+use Rattle.cc_typed.specs.declared.tree.DataType.{DataType, Void, Char, Int, Long, Process, Struct', Array'}
+use Rattle.cc_typed.specs.declared.tree.Expression.{Expression, Constant, GetChar, Read, StepBefore, StepAfter, CallFunction', CreateProcess', Transact', SendTo', Within', PrintFormat', end_of-Expression, more_of-Expression, Arithmetic', Compare', Both', Either'}
+use Rattle.cc_typed.specs.declared.tree.Location.{Location, Variable}
+use Rattle.cc_typed.specs.declared.value.Value.{Value}
 
 pub and-left : (a b : Bool) → (a && b) ≡ true → a ≡ true
 and-left true b e = refl

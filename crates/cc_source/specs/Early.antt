@@ -2,10 +2,10 @@
 use Rattle.std.specs.Prelude.{ℕ, Bool, ◌&&◌, if◌then◌else◌, [], ◌∷◌, length, None}
 use Rattle.cc_base.specs.Meaning.{Meaning}
 use Rattle.cc_base.specs.declared.request.Request.TheVariants.{Done}
-use Rattle.cc_source.specs.Parts.{Parts}
+use Rattle.cc_typed.specs.Parts.{Parts}
 use Rattle.cc_source.specs.Programs.{meaning}
 use Rattle.cc_source.specs.Straight.{is_straight_program}
-use Rattle.cc_source.specs.Typed.{is_typed_program}
+use Rattle.cc_typed.specs.Typed.{is_typed_program}
 
 unfoldable pub is_early : Parts → Bool
 is_early p = is_typed_program p && is_straight_program p

@@ -12,20 +12,21 @@ use Rattle.cc_base.specs.declared.request.Grant.{Grant}
 use Rattle.cc_base.specs.declared.request.Grant.TheVariants as grant
 use Rattle.cc_base.specs.declared.request.Request.{Request}
 use Rattle.cc_source.specs.Conversions.{and-left, and-right, type-straight}
-use Rattle.cc_source.specs.Meaning.{Scope, call_value, called, parameters_at, set_from}
-use Rattle.cc_source.specs.Numbers.{is_char, is_int, is_long}
-use Rattle.cc_source.specs.Parts.{Parts}
-use Rattle.cc_source.specs.Phrases.{array}
+use Rattle.cc_source.specs.Meaning.{Scope, call_value, called, set_from}
+use Rattle.cc_typed.specs.Missing.{parameters_at}
+use Rattle.cc_typed.specs.Numbers.{is_char, is_int, is_long}
+use Rattle.cc_typed.specs.Parts.{Parts}
+use Rattle.cc_typed.specs.Phrases.{array}
 use Rattle.cc_source.specs.Programs.{meaning, parameter_cells, shape_of, zero_all}
 use Rattle.cc_source.specs.Straight.{is_straight_type, is_straight_value}
-use Rattle.cc_source.specs.Typed.{is_called, kind_parameters}
-use Rattle.cc_source.specs.Types.{is_assignable, is_process, is_same, is_struct, is_void}
-use Rattle.cc_source.specs.Values.{cells, cells_all, flat, flats, nought, unflat, unflats, zero_of}
-use Rattle.cc_source.specs.declared.tree.DataType.{DataType, Void, Char, Int, Long, Process, Struct', Array'}
-use Rattle.cc_source.specs.declared.tree.Kind.{Kind}
-use Rattle.cc_source.specs.declared.tree.Transaction.{Transaction}
-use Rattle.cc_source.specs.declared.value.Value.{Value}
-use Rattle.cc_source.specs.declared.value.Value.TheBlock as V
+use Rattle.cc_typed.specs.Typed.{is_called, kind_parameters}
+use Rattle.cc_typed.specs.Types.{is_assignable, is_process, is_same, is_struct, is_void}
+use Rattle.cc_typed.specs.Values.{cells, cells_all, flat, flats, nought, unflat, unflats, zero_of}
+use Rattle.cc_typed.specs.declared.tree.DataType.{DataType, Void, Char, Int, Long, Process, Struct', Array'}
+use Rattle.cc_typed.specs.declared.tree.Kind.{Kind}
+use Rattle.cc_typed.specs.declared.tree.Transaction.{Transaction}
+use Rattle.cc_typed.specs.declared.value.Value.{Value}
+use Rattle.cc_typed.specs.declared.value.Value.TheBlock as V
 use denote.Hole.Carrier.{hidden}
 
 never : {A : Type 0} → false ≡ true → A

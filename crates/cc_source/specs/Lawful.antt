@@ -6,10 +6,10 @@ use Rattle.cc_base.specs.Served.{AsksServed}
 use Rattle.cc_source.specs.Asks.{keeps-form, keeps-served, keeps-sites}
 use Rattle.cc_source.specs.Conversions.{and-left, and-right}
 use Rattle.cc_source.specs.Early.{early_meaning, early_sites, is_early, no_meaning}
-use Rattle.cc_source.specs.Parts.{Parts}
+use Rattle.cc_typed.specs.Parts.{Parts}
 use Rattle.cc_source.specs.Programs.{meaning}
 use Rattle.cc_source.specs.Straight.{is_straight_program}
-use Rattle.cc_source.specs.Typed.{is_typed_program}
+use Rattle.cc_typed.specs.Typed.{is_typed_program}
 
 pub early-typed : (p : Parts) → is_early p ≡ true → is_typed_program p ≡ true
 unfolding is_early

@@ -2,14 +2,14 @@
 use Rattle.std.specs.Prelude.{List, [], ◌∷◌}
 use Rattle.cc_base.specs.Outcome.{Eval, ◌>>=◌, pure}
 use Rattle.cc_source.specs.Meaning.{Caller, Scope, eval, exec, unless_left}
-use Rattle.cc_source.specs.Numbers.{converted}
-use Rattle.cc_source.specs.Parts.{Parts}
-use Rattle.cc_source.specs.Types.{type_of}
+use Rattle.cc_typed.specs.Numbers.{converted}
+use Rattle.cc_typed.specs.Parts.{Parts}
+use Rattle.cc_typed.specs.Types.{type_of}
 use Rattle.cc_source.specs.declared.flow.Flow.{Flow}
 use Rattle.cc_source.specs.declared.flow.Flow.TheVariants.{Ended}
-use Rattle.cc_source.specs.declared.tree.Argument.{Argument}
-use Rattle.cc_source.specs.declared.tree.Statement.{Statement}
-use Rattle.cc_source.specs.declared.value.Value.{Value}
+use Rattle.cc_typed.specs.declared.tree.Argument.{Argument}
+use Rattle.cc_typed.specs.declared.tree.Statement.{Statement}
+use Rattle.cc_typed.specs.declared.value.Value.{Value}
 
 module _ (p : Parts) (call : Caller) where
   -- arguments from the left, each converted before the next

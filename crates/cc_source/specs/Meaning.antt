@@ -9,26 +9,26 @@ use Rattle.cc_base.specs.declared.names.Pid.{Pid}
 use Rattle.cc_base.specs.declared.request.Grant.{Grant}
 use Rattle.cc_base.specs.declared.request.Grant.TheVariants as grant
 use Rattle.cc_base.specs.declared.request.Request.TheVariants as request
-use Rattle.cc_source.specs.Formats.{formatted}
-use Rattle.cc_source.specs.Numbers.{at_zero, byte_of, compared, converted, in_range, indexed, is_long, operated, process_of, truth}
-use Rattle.cc_source.specs.Parts.{Parts}
-use Rattle.cc_source.specs.Phrases.{field, element, field_of, element_of, negate, not_of, plus, parenthesized, choose, assign, update, put_char, branch, branches, while_loop, do_loop, for_loop}
-use Rattle.cc_source.specs.Types.{array_length, root, type_at, type_of}
-use Rattle.cc_source.specs.Values.{flat, flats, nought, number, part, read, store, unflat, unflats, zero_of}
+use Rattle.cc_typed.specs.Formats.{formatted}
+use Rattle.cc_typed.specs.Missing.{environment_at, first_at, parameters_at, transaction_at, value_type_at}
+use Rattle.cc_typed.specs.Numbers.{at_zero, byte_of, compared, converted, in_range, indexed, is_long, operated, process_of, truth}
+use Rattle.cc_typed.specs.Parts.{Parts}
+use Rattle.cc_typed.specs.Phrases.{field, element, field_of, element_of, negate, not_of, plus, parenthesized, choose, assign, update, put_char, branch, branches, while_loop, do_loop, for_loop}
+use Rattle.cc_typed.specs.Types.{array_length, root, type_at, type_of}
+use Rattle.cc_typed.specs.Values.{flat, flats, nought, number, part, read, store, unflat, unflats, zero_of}
 use Rattle.cc_source.specs.declared.flow.Flow.{Flow}
 use Rattle.cc_source.specs.declared.flow.Flow.TheVariants.{Ended, Broke, Continued, Returned, Replied, Finished}
-use Rattle.cc_source.specs.declared.tree.Choice.{Choice, Accept' as AcceptChoice', Delay as DelayChoice, Immediate, Terminate}
-use Rattle.cc_source.specs.declared.tree.DataType.{DataType, Void, Int, Long}
-use Rattle.cc_source.specs.declared.tree.Expression.{Expression, Constant, GetChar, Read, StepBefore, StepAfter, CallFunction', CreateProcess', Transact', SendTo', Within', PrintFormat', Row_of-Expression, end_of-Expression, more_of-Expression, Row_of-Argument, end_of-Argument, more_of-Argument, Arithmetic', Compare', Both', Either', Row_of-Operation, end_of-Operation, more_of-Operation, Row_of-Compared, end_of-Compared, more_of-Compared}
-use Rattle.cc_source.specs.declared.tree.Location.{Location, Variable}
-use Rattle.cc_source.specs.declared.tree.Operator.{Operator}
-use Rattle.cc_source.specs.declared.tree.Operator.TheVariants.{Add}
-use Rattle.cc_source.specs.declared.tree.Site.{Site}
-use Rattle.cc_source.specs.declared.tree.Statement.{Statement, Empty, Evaluate, Declare, Initialize, Block', Break, Continue, Return, Finish, TransactionReturn, Delay, Accept', Select', Row_of-Statement, end_of-Statement, more_of-Statement, Row_of-Alternative, end_of-Alternative, more_of-Alternative}
-use Rattle.cc_source.specs.declared.tree.Step.{Step}
-use Rattle.cc_source.specs.declared.tree.Step.TheVariants.{Up, Down}
-use Rattle.cc_source.specs.declared.tree.Transaction.{Transaction}
-use Rattle.cc_source.specs.declared.value.Value.{Value, Number}
+use Rattle.cc_typed.specs.declared.tree.Choice.{Choice, Accept' as AcceptChoice', Delay as DelayChoice, Immediate, Terminate}
+use Rattle.cc_typed.specs.declared.tree.DataType.{DataType, Void, Int, Long}
+use Rattle.cc_typed.specs.declared.tree.Expression.{Expression, Constant, GetChar, Read, StepBefore, StepAfter, CallFunction', CreateProcess', Transact', SendTo', Within', PrintFormat', Row_of-Expression, end_of-Expression, more_of-Expression, Row_of-Argument, end_of-Argument, more_of-Argument, Arithmetic', Compare', Both', Either', Row_of-Operation, end_of-Operation, more_of-Operation, Row_of-Compared, end_of-Compared, more_of-Compared}
+use Rattle.cc_typed.specs.declared.tree.Location.{Location, Variable}
+use Rattle.cc_typed.specs.declared.tree.Operator.{Operator}
+use Rattle.cc_typed.specs.declared.tree.Operator.TheVariants.{Add}
+use Rattle.cc_typed.specs.declared.tree.Statement.{Statement, Empty, Evaluate, Declare, Initialize, Block', Break, Continue, Return, Finish, TransactionReturn, Delay, Accept', Select', Row_of-Statement, end_of-Statement, more_of-Statement, Row_of-Alternative, end_of-Alternative, more_of-Alternative}
+use Rattle.cc_typed.specs.declared.tree.Step.{Step}
+use Rattle.cc_typed.specs.declared.tree.Step.TheVariants.{Up, Down}
+use Rattle.cc_typed.specs.declared.tree.Transaction.{Transaction}
+use Rattle.cc_typed.specs.declared.value.Value.{Value, Number}
 
 -- the variables of a function or body, by their numbers
 abbrev pub Scope : Type 0
@@ -123,27 +123,6 @@ after_turn Ended next = next
 after_turn Continued next = next
 after_turn Broke next = pure Ended
 after_turn flow next = pure flow
-
--- what a missing site stands for
-abbrev pub transaction_at : Option Site → ℕ
-transaction_at None = 0
-transaction_at (Some s) = s.transaction
-
-abbrev pub environment_at : Option Site → List ℕ
-environment_at None = []
-environment_at (Some s) = s.environment
-
-abbrev pub first_at : Option Site → ℕ
-first_at None = 0
-first_at (Some s) = s.first
-
-abbrev pub parameters_at : Option Transaction → List DataType
-parameters_at None = []
-parameters_at (Some t) = t.parameters
-
-abbrev pub value_type_at : Option Transaction → DataType
-value_type_at None = Void
-value_type_at (Some t) = t.value
 
 abbrev pub args_taken : Grant → List ℤ
 args_taken (grant.Took alt args) = args

@@ -8,18 +8,19 @@ use Rattle.cc_base.specs.declared.request.Grant.{Grant}
 use Rattle.cc_base.specs.declared.request.Request.{Request}
 use Rattle.cc_base.specs.declared.request.Request.TheVariants.{Done, Fault}
 use Rattle.cc_source.specs.Lists.{exec_all}
-use Rattle.cc_source.specs.Meaning.{Caller, Scope, condition_of, given, parameters_at, set_from}
-use Rattle.cc_source.specs.Numbers.{at_zero}
-use Rattle.cc_source.specs.Parts.{Parts}
-use Rattle.cc_source.specs.Values.{cells, cells_all, number, unflats, zero_of}
+use Rattle.cc_source.specs.Meaning.{Caller, Scope, condition_of, given, set_from}
+use Rattle.cc_typed.specs.Missing.{parameters_at, variables_of}
+use Rattle.cc_typed.specs.Numbers.{at_zero}
+use Rattle.cc_typed.specs.Parts.{Parts}
+use Rattle.cc_typed.specs.Values.{cells, cells_all, number, unflats, zero_of}
 use Rattle.cc_source.specs.declared.flow.Flow.{Flow}
 use Rattle.cc_source.specs.declared.flow.Flow.TheVariants.{Returned}
-use Rattle.cc_source.specs.declared.tree.DataType.{DataType, Void, Long}
-use Rattle.cc_source.specs.declared.tree.Function.{Function}
-use Rattle.cc_source.specs.declared.tree.Kind.{Kind}
-use Rattle.cc_source.specs.declared.tree.Site.{Site}
-use Rattle.cc_source.specs.declared.tree.Transaction.{Transaction}
-use Rattle.cc_source.specs.declared.value.Value.{Value}
+use Rattle.cc_typed.specs.declared.tree.DataType.{DataType, Void, Long}
+use Rattle.cc_typed.specs.declared.tree.Function.{Function}
+use Rattle.cc_typed.specs.declared.tree.Kind.{Kind}
+use Rattle.cc_typed.specs.declared.tree.Site.{Site}
+use Rattle.cc_typed.specs.declared.tree.Transaction.{Transaction}
+use Rattle.cc_typed.specs.declared.value.Value.{Value}
 
 abbrev pub zero_all : List DataType → List Value
 zero_all [] = []
@@ -89,10 +90,6 @@ no_call f args = stop (Fault Depth)
 
 abbrev pub nothing_left : Left
 nothing_left = record { grants = []; ticks = 0 }
-
-abbrev pub variables_of : Option Kind → List DataType
-variables_of None = []
-variables_of (Some k) = k.variables
 
 -- variables of these numbers are set, one after the other
 abbrev pub set_each : List ℕ → List Value → Scope → Scope

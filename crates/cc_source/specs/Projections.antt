@@ -5,14 +5,14 @@ use Rattle.std.specs.Prelude.{slice_get}
 use Rattle.cc_source.specs.Conversions.{and-left, and-right, type-straight}
 use Rattle.cc_source.specs.Unflats.{passes-at}
 use Rattle.cc_base.specs.Grants.{HasKind}
-use Rattle.cc_source.specs.Parts.{Parts}
+use Rattle.cc_typed.specs.Parts.{Parts}
 use Rattle.cc_source.specs.Programs.{meaning, parameter_cells}
 use Rattle.cc_source.specs.Straight.{is_straight, is_straight_argument, is_straight_kind, is_straight_program, is_straight_site, is_straight_statement, is_straight_transaction, is_straight_type, is_straight_value}
-use Rattle.cc_source.specs.declared.tree.Argument.{Argument}
-use Rattle.cc_source.specs.declared.tree.Kind.{Kind}
-use Rattle.cc_source.specs.declared.tree.Site.{Site}
-use Rattle.cc_source.specs.declared.tree.Statement.{Statement}
-use Rattle.cc_source.specs.declared.tree.Transaction.{Transaction}
+use Rattle.cc_typed.specs.declared.tree.Argument.{Argument}
+use Rattle.cc_typed.specs.declared.tree.Kind.{Kind}
+use Rattle.cc_typed.specs.declared.tree.Site.{Site}
+use Rattle.cc_typed.specs.declared.tree.Statement.{Statement}
+use Rattle.cc_typed.specs.declared.tree.Transaction.{Transaction}
 
 pub passes-get : {X : Type 0} (test : X → Bool) (xs : List X) (k : ℕ) (x : X) → list_all test xs ≡ true → slice_get xs k ≡ Some x → test x ≡ true
 passes-get test [] k x h e = cc

@@ -1,5 +1,5 @@
 -- The phrases of a straight typed program ask only what is known.
-use Rattle.std.proofs.Common.{◌≡◌, ℕ, ◌+◌, ℤ, pos, true, false, ◌&&◌, List, [], ◌∷◌, length, Option, None, Some, refl, ap, sym, ◌∙◌, subst}
+use Rattle.std.proofs.Common.{◌≡◌, ℕ, ◌+◌, ℤ, pos, true, false, ◌&&◌, List, [], ◌∷◌, length, Option, Some, refl, ap, sym, ◌∙◌, subst}
 use Rattle.std.specs.Prelude.{slice_get, nat_lt}
 use Rattle.std.proofs.lemmas.Bool.{ltb-true}
 use Rattle.cc_base.specs.Grants.{argument_cells}
@@ -9,20 +9,21 @@ use Rattle.cc_base.specs.declared.request.Grant.TheVariants as grant
 use Rattle.cc_base.specs.declared.request.Request.TheVariants as request
 use Rattle.cc_source.specs.Conversions.{and-left, and-right, converted-straight, expression-straight, type-straight}
 use Rattle.cc_source.specs.Known.{Single, Safe, safe, ask-safe, assigned-cells, called-safe, kind-cells, length-flats, one-cell, same-cells, same-values, single-at, single-set, takes-cells, value-safe}
-use Rattle.cc_source.specs.Meaning.{Caller, Scope, arguments, called, eval, made, parameters_at, transacted}
-use Rattle.cc_source.specs.Numbers.{byte_of, converted, is_int, process_of}
-use Rattle.cc_source.specs.Parts.{Parts}
-use Rattle.cc_source.specs.Phrases.{field, element, field_of, element_of, negate, not_of, plus, parenthesized, choose, assign, update, put_char}
+use Rattle.cc_source.specs.Meaning.{Caller, Scope, arguments, called, eval, made, transacted}
+use Rattle.cc_typed.specs.Missing.{parameters_at}
+use Rattle.cc_typed.specs.Numbers.{byte_of, converted, is_int, process_of}
+use Rattle.cc_typed.specs.Parts.{Parts}
+use Rattle.cc_typed.specs.Phrases.{field, element, field_of, element_of, negate, not_of, plus, parenthesized, choose, assign, update, put_char}
 use Rattle.cc_source.specs.Programs.{meaning}
 use Rattle.cc_source.specs.Straight.{are_straight_row, is_straight, is_straight_place, is_straight_type, is_straight_value}
-use Rattle.cc_source.specs.KnownTypes.{is_process_type}
-use Rattle.cc_source.specs.Typed.{Surroundings, are_typed_row, is_called, is_typed, is_typed_place, kind_parameters}
-use Rattle.cc_source.specs.Types.{is_same, is_assignable, root, type_at, type_of}
-use Rattle.cc_source.specs.Values.{cells, cells_all, flat, flats, number}
-use Rattle.cc_source.specs.declared.tree.DataType.{DataType, Void, Char, Int, Long, Process, Struct', Array'}
-use Rattle.cc_source.specs.declared.tree.Expression.{Expression, Constant, GetChar, Read, StepBefore, StepAfter, CallFunction', CreateProcess', Transact', SendTo', Within', PrintFormat', end_of-Expression, more_of-Expression, Row_of-Argument, end_of-Argument, more_of-Argument, Arithmetic', Compare', Both', Either'}
-use Rattle.cc_source.specs.declared.tree.Location.{Location, Variable}
-use Rattle.cc_source.specs.declared.value.Value.{Value, Number}
+use Rattle.cc_typed.specs.KnownTypes.{is_process_type}
+use Rattle.cc_typed.specs.Typed.{Surroundings, are_typed_row, is_called, is_typed, is_typed_place, kind_parameters}
+use Rattle.cc_typed.specs.Types.{is_same, is_assignable, root, type_at, type_of}
+use Rattle.cc_typed.specs.Values.{cells, cells_all, flat, flats, number}
+use Rattle.cc_typed.specs.declared.tree.DataType.{DataType, Void, Char, Int, Long, Process, Struct', Array'}
+use Rattle.cc_typed.specs.declared.tree.Expression.{Expression, Constant, GetChar, Read, StepBefore, StepAfter, CallFunction', CreateProcess', Transact', SendTo', Within', PrintFormat', end_of-Expression, more_of-Expression, Row_of-Argument, end_of-Argument, more_of-Argument, Arithmetic', Compare', Both', Either'}
+use Rattle.cc_typed.specs.declared.tree.Location.{Location, Variable}
+use Rattle.cc_typed.specs.declared.value.Value.{Value, Number}
 
 number-cells : (n : ℤ) → length (flat (Number n)) ≡ 1
 unfolding flat

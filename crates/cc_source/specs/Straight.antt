@@ -1,17 +1,18 @@
 -- Straight phrases and programs: the simplest phrases of each kind, no function but `main`, and no clauses of an accept.
 use Rattle.std.specs.List.{list_all}
-use Rattle.std.specs.Prelude.{Bool, true, false, ◌&&◌, List, [], ◌∷◌, Option, Some, None}
-use Rattle.cc_source.specs.Numbers.{is_int}
-use Rattle.cc_source.specs.Parts.{Parts}
-use Rattle.cc_source.specs.Phrases.{parenthesized, assign, put_char}
-use Rattle.cc_source.specs.declared.tree.Argument.{Argument}
-use Rattle.cc_source.specs.declared.tree.DataType.{DataType, Void, Int, Process}
-use Rattle.cc_source.specs.declared.tree.Expression.{Expression, Constant, Read, CreateProcess', Transact', end_of-Expression, more_of-Expression, Row_of-Argument, end_of-Argument, more_of-Argument}
-use Rattle.cc_source.specs.declared.tree.Kind.{Kind}
-use Rattle.cc_source.specs.declared.tree.Location.{Location, Variable}
-use Rattle.cc_source.specs.declared.tree.Site.{Site}
-use Rattle.cc_source.specs.declared.tree.Statement.{Statement, Empty, Evaluate, Declare, Block', TransactionReturn, Accept', Row_of-Statement, end_of-Statement, more_of-Statement}
-use Rattle.cc_source.specs.declared.tree.Transaction.{Transaction}
+use Rattle.std.specs.Prelude.{Bool, true, false, ◌&&◌, Option, Some, None}
+use Rattle.cc_typed.specs.Numbers.{is_int}
+use Rattle.cc_typed.specs.Parts.{Parts}
+use Rattle.cc_typed.specs.Sequences.{is_empty}
+use Rattle.cc_typed.specs.Phrases.{parenthesized, assign, put_char}
+use Rattle.cc_typed.specs.declared.tree.Argument.{Argument}
+use Rattle.cc_typed.specs.declared.tree.DataType.{DataType, Void, Int, Process}
+use Rattle.cc_typed.specs.declared.tree.Expression.{Expression, Constant, Read, CreateProcess', Transact', end_of-Expression, more_of-Expression, Row_of-Argument, end_of-Argument, more_of-Argument}
+use Rattle.cc_typed.specs.declared.tree.Kind.{Kind}
+use Rattle.cc_typed.specs.declared.tree.Location.{Location, Variable}
+use Rattle.cc_typed.specs.declared.tree.Site.{Site}
+use Rattle.cc_typed.specs.declared.tree.Statement.{Statement, Empty, Evaluate, Declare, Block', TransactionReturn, Accept', Row_of-Statement, end_of-Statement, more_of-Statement}
+use Rattle.cc_typed.specs.declared.tree.Transaction.{Transaction}
 
 -- `int` and process types
 unfoldable pub is_straight_type : DataType → Bool
@@ -76,10 +77,6 @@ is_straight_transaction t = list_all is_straight_type t.parameters && is_straigh
 abbrev pub is_nothing : Option Expression → Bool
 is_nothing None = true
 is_nothing (Some e) = false
-
-abbrev pub is_empty : {X : Type 0} → List X → Bool
-is_empty [] = true
-is_empty (x ∷ xs) = false
 
 -- no clauses, and so no environment
 abbrev pub is_straight_site : Site → Bool

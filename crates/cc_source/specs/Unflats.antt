@@ -1,14 +1,14 @@
 -- Values of straight types, one after the other.
-use Rattle.std.proofs.Common.{◌≡◌, ℕ, ◌+◌, ◌<◌, ℤ, pos, zero, suc, min, Bool, true, ◌&&◌, List, [], ◌∷◌, length, take, drop, get_or, refl, ap, sym, ◌∙◌, arith}
-use Rattle.std.proofs.Math.Seq.{drop-cons}
+use Rattle.std.proofs.Common.{◌≡◌, ℕ, ◌+◌, ◌<◌, ℤ, pos, zero, suc, Bool, true, ◌&&◌, List, [], ◌∷◌, length, take, drop, get_or, refl, ap, ◌∙◌, arith}
 use Rattle.std.proofs.lemmas.List.{drop-drop}
 use Rattle.std.specs.List.{list_all}
 use Rattle.cc_source.specs.Conversions.{and-left, and-right, type-straight}
 use Rattle.cc_source.specs.Programs.{zero_all}
 use Rattle.cc_source.specs.Straight.{is_straight_type, is_straight_value}
-use Rattle.cc_source.specs.Values.{cells, cells_all, unflat, unflats, zero_of}
-use Rattle.cc_source.specs.declared.tree.DataType.{DataType, Void, Char, Int, Long, Process, Struct', Array'}
-use Rattle.cc_source.specs.declared.value.Value.{Number}
+use Rattle.cc_typed.specs.Sequences.{drop-at, drop-min, take-min}
+use Rattle.cc_typed.specs.Values.{cells, cells_all, unflat, unflats, zero_of}
+use Rattle.cc_typed.specs.declared.tree.DataType.{DataType, Void, Char, Int, Long, Process, Struct', Array'}
+use Rattle.cc_typed.specs.declared.value.Value.{Number}
 
 pub passes-at : {X : Type 0} (test : X → Bool) (xs : List X) (k : ℕ) (d : X) → list_all test xs ≡ true → k < length xs → test (get_or xs k d) ≡ true
 passes-at test [] k d h lt = absurd (omega arith)
@@ -60,9 +60,6 @@ get-drop [] (suc k) = refl
 get-drop (c ∷ cs) zero = refl
 get-drop (c ∷ cs) (suc k) = get-drop cs k
 
-pub drop-at : {X : Type 0} (ts : List X) (k : ℕ) (d : X) → k < length ts → drop k ts ≡ get_or ts k d ∷ drop (k + 1) ts
-drop-at ts k d lt = let e : suc k ≡ k + 1 = omega arith in drop-cons ts k d lt ∙ ap (λ n. get_or ts k d ∷ drop n ts) e
-
 -- one more value of the rest
 pub unflats-step : (ts : List DataType) (k : ℕ) (cs : List ℤ) → list_all is_straight_type ts ≡ true → k < length ts → unflats (drop k ts) (drop k cs) ≡ Number (get_or cs k (pos 0)) ∷ unflats (drop (k + 1) ts) (drop (k + 1) cs)
 unflats-step ts k cs h lt =
@@ -75,36 +72,6 @@ unflats-step ts k cs h lt =
 
 pub zeros-step : (ts : List DataType) (k : ℕ) (d : DataType) → k < length ts → zero_all (drop k ts) ≡ zero_of (get_or ts k d) ∷ zero_all (drop (k + 1) ts)
 zeros-step ts k d lt = ap zero_all (drop-at ts k d lt)
-
-nil-taken : {X : Type 0} (k : ℕ) (xs : List X) → xs ≡ [] → take k xs ≡ []
-nil-taken zero [] e = refl
-nil-taken (suc k) [] e = refl
-nil-taken k (x ∷ xs) e = cc
-
-nil-dropped : {X : Type 0} (k : ℕ) (xs : List X) → xs ≡ [] → drop k xs ≡ []
-nil-dropped zero [] e = refl
-nil-dropped (suc k) [] e = refl
-nil-dropped k (x ∷ xs) e = cc
-
-same-taken : {X : Type 0} (m k : ℕ) (xs : List X) → m ≡ min k (length xs) → take m xs ≡ take k xs
-same-taken m k [] e = nil-taken m [] refl ∙ sym (nil-taken k [] refl)
-same-taken zero zero (x ∷ xs) e = refl
-same-taken zero (suc k) (x ∷ xs) e = absurd (omega arith)
-same-taken (suc m) zero (x ∷ xs) e = absurd (omega arith)
-same-taken (suc m) (suc k) (x ∷ xs) e = ap (λ ys. x ∷ ys) (same-taken m k xs (omega arith))
-
-same-dropped : {X : Type 0} (m k : ℕ) (xs : List X) → m ≡ min k (length xs) → drop m xs ≡ drop k xs
-same-dropped m k [] e = nil-dropped m [] refl ∙ sym (nil-dropped k [] refl)
-same-dropped zero zero (x ∷ xs) e = refl
-same-dropped zero (suc k) (x ∷ xs) e = absurd (omega arith)
-same-dropped (suc m) zero (x ∷ xs) e = absurd (omega arith)
-same-dropped (suc m) (suc k) (x ∷ xs) e = same-dropped m k xs (omega arith)
-
-pub take-min : (xs : List DataType) (k : ℕ) → take (min k (length xs)) xs ≡ take k xs
-take-min xs k = same-taken (min k (length xs)) k xs refl
-
-pub drop-min : (xs : List DataType) (k : ℕ) → drop (min k (length xs)) xs ≡ drop k xs
-drop-min xs k = same-dropped (min k (length xs)) k xs refl
 
 pub types-take : (ts : List DataType) (k : ℕ) → list_all is_straight_type ts ≡ true → list_all is_straight_type (take k ts) ≡ true
 types-take ts k h = passes-take is_straight_type ts k h

@@ -1,10 +1,10 @@
 ghost use Rattle.std.specs.List.{list_all};
 ghost use Rattle.std.specs.Prelude.{◌≡◌, ◌&&◌, not, true, length, slice_get, Some};
-ghost use Rattle.cc_source.specs.Numbers.{is_int};
+ghost use Rattle.cc_typed.specs.Numbers.{is_int};
 ghost use Rattle.cc_source.specs.Straight.{is_straight, is_straight_argument, is_straight_kind, is_straight_option, is_straight_place, is_straight_program, is_straight_site, is_straight_statement, is_straight_transaction, is_straight_type, is_straight_value};
 
 use crate::program::Program;
-use crate::tree::{Argument, DataType, Expression, Kind, Location, Site, Statement, Transaction};
+use cc_typed::{Argument, DataType, Expression, Kind, Location, Site, Statement, Transaction};
 
 /// Whether it is `int` or a process type.
 #[tactic(auto, using(crate::proofs::Variants::types))]

@@ -18,10 +18,10 @@ impl Model for Early {
     ghost use Rattle.std.specs.Prelude.{◌≡◌, true};
     ghost use Rattle.std.specs.Coded.{codes};
     ghost use Rattle.cc_source.specs.Early.{is_early};
-    ghost use Rattle.cc_source.specs.Parts.{Parts};
-    ghost use Rattle.cc_source.specs.contracts.tree.DataType as data_type;
-    ghost use Rattle.cc_source.specs.contracts.tree.Expression as expression;
-    ghost use Rattle.cc_source.specs.contracts.tree.Statement as statement;
+    ghost use Rattle.cc_typed.specs.Parts.{Parts};
+    ghost use Rattle.cc_typed.specs.contracts.tree.DataType as data_type;
+    ghost use Rattle.cc_typed.specs.contracts.tree.Expression as expression;
+    ghost use Rattle.cc_typed.specs.contracts.tree.Statement as statement;
 
     ghost Value = { Parts };
 

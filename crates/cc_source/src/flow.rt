@@ -1,4 +1,4 @@
-use crate::value::Value;
+use cc_typed::Value;
 
 /// How a statement ended.
 #[derive(Drop)]

@@ -1,33 +1,26 @@
-//! The typed program, and what it means: what each process asks after its grants, and which calls fit an accept.
+//! What a typed program means: what each process asks after its grants, and which calls fit an accept.
 //!
-//! A [`Program`] is the tree of a text whose names are numbers and whose types are known. Its meaning stands in
-//! `specs/`: `Values`, `Numbers`, `Meaning` for its phrases and `Programs` for the whole; when it is typed in `Typed`.
+//! A [`Program`] is made of parts that are typed (`cc_typed`). Its meaning stands in `specs/`: `Meaning` for its phrases
+//! and `Programs` for the whole. The evaluator gives that meaning for straight programs, which `Straight` tells.
 #![tactic(auto)]
 
 mod checks;
-mod clauses;
 mod early;
 mod flow;
-mod formats;
 mod grants;
 mod plain;
 mod program;
 mod run;
-mod tree;
-mod typed;
-mod typed_programs;
-mod typed_statements;
-mod types;
-mod value;
+mod straight_values;
 
+pub use cc_typed::{
+    AcceptPart, Alternative, Argument, Choice, Compared, Comparison, DataType, Expression,
+    Function, Kind, Location, Operation, Operator, ProgramParts, Site, Statement, Step,
+    Transaction, Value,
+};
 pub use early::{Early, EarlyProcess};
 pub use grants::Grants;
-pub use program::{Program, ProgramParts};
-pub use tree::{
-    AcceptPart, Alternative, Argument, Choice, Compared, Comparison, DataType, Expression,
-    Function, Kind, Location, Operation, Operator, Site, Statement, Step, Transaction,
-};
-pub use value::Value;
+pub use program::Program;
 
 #[cfg(test)]
 mod tests;

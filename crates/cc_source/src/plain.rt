@@ -8,22 +8,24 @@ ghost use Rattle.cc_source.specs.declared.run.Stop.TheVariants as stop;
 ghost use Rattle.cc_base.specs.Outcome.{Through, asked_by};
 ghost use Rattle.cc_source.specs.Gives.{Gives, IsValue, IsDone, caller, left};
 ghost use Rattle.cc_source.specs.Lists.{exec_all, values_of};
-ghost use Rattle.cc_source.specs.Meaning.{accepted, alternative_at, args_taken, call_value, called, eval, exec, given, made, put_byte, reply_cells, scope_taken, set_from, stored, transacted, transaction_of, value_at, value_type_at};
-ghost use Rattle.cc_source.specs.Numbers.{byte_of, converted, process_of};
+ghost use Rattle.cc_source.specs.Meaning.{accepted, alternative_at, args_taken, call_value, called, eval, exec, given, made, put_byte, reply_cells, scope_taken, set_from, stored, transacted, transaction_of, value_at};
+ghost use Rattle.cc_typed.specs.Missing.{value_type_at};
+ghost use Rattle.cc_typed.specs.Numbers.{byte_of, converted, process_of};
 ghost use Rattle.cc_source.specs.Programs.{act, body, fit, meaning, shape_of, site_rank, variables_at_start, zero_all};
 ghost use Rattle.cc_source.specs.Straight.{is_straight, is_straight_argument, is_straight_option, is_straight_place, is_straight_program, is_straight_site, is_straight_statement, is_straight_value, is_straight_type};
-ghost use Rattle.cc_source.specs.Types.{root, type_of};
-ghost use Rattle.cc_source.specs.Values.{cells_all, flats, number, unflats, zero_of};
+ghost use Rattle.cc_typed.specs.Types.{root, type_of};
+ghost use Rattle.cc_typed.specs.Values.{cells_all, flats, number, unflats, zero_of};
 
 use crate::flow::Flow;
 use crate::grants::Grants;
 use crate::program::Program;
 use crate::run::{Run, Stop, TICKS};
-use crate::tree::{
-    AcceptPart, Argument, DataType, Expression, Kind, Location, Site, Statement, Transaction,
-};
-use crate::value::{Value, cells_in, cells_of, number_at, value_with, zero};
+use crate::straight_values::{cells_in, number_at, value_with, zero};
 use cc_base::{Alt, Alts, Bytes, Cells, FaultKind, Grant, Memory, Pid, Request, Shape};
+use cc_typed::{
+    AcceptPart, Argument, DataType, Expression, Kind, Location, Site, Statement, Transaction,
+    Value, cells_of,
+};
 use sqlite_items::Items;
 use std::alloc::Global;
 
@@ -209,7 +211,7 @@ impl Evaluator<'_> {
     }
 
     /// The value of a place.
-    #[tactic(auto, using(crate::proofs::Straight::straight_places), unfolding(crate::specs::Types::root))]
+    #[tactic(auto, using(crate::proofs::Straight::straight_places), unfolding(cc_typed::specs::Types::root))]
     fn read(&self, run: &Run<'_>, from: &Location) -> Result<Value, Stop>
         requires { is_straight_place from.now ≡ true }
         ensures { IsValue result (value_at run.now.scope (root from.now)) }
@@ -222,7 +224,7 @@ impl Evaluator<'_> {
     }
 
     /// Stores a value at a place.
-    #[tactic(auto, using(crate::proofs::Straight::straight_places), unfolding(crate::specs::Types::root))]
+    #[tactic(auto, using(crate::proofs::Straight::straight_places), unfolding(cc_typed::specs::Types::root))]
     fn assign(&self, run: &mut Run<'_>, to: &Location, value: Value) -> Result<Value, Stop>
         requires { is_straight_place to.now ≡ true }
         ensures { Gives result run.new (stored to.now [] value run.old.scope (left run.old)) }
@@ -423,7 +425,7 @@ impl Evaluator<'_> {
     }
 
     /// The zero of the value of a site's transaction.
-    #[tactic(auto, using(crate::specs::Projections::straight_parts, crate::proofs::Values::straight_types))]
+    #[tactic(auto, using(crate::specs::Projections::straight_parts, crate::proofs::StraightValues::straight_types))]
     fn reply_zero(&self, site: u32) -> Value
         requires { is_straight_program self.now.program.now ≡ true }
         ensures { result ≡ zero_of (value_type_at (transaction_of self.now.program.now site)) }

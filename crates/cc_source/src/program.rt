@@ -1,23 +1,12 @@
 ghost use Rattle.std.specs.Prelude.{◌≡◌, ◌↔◌, true, IfOk, IfSome, IsSome};
-ghost use Rattle.cc_source.specs.Checked.{parts_of};
-ghost use Rattle.cc_source.specs.Typed.{is_typed_program};
+ghost use Rattle.cc_typed.specs.Checked.{parts_of};
+ghost use Rattle.cc_typed.specs.Typed.{is_typed_program};
 
-use crate::tree::{Function, Kind, Site, Transaction};
-use crate::typed_programs::typed_program;
 use cc_base::{Bytes, Memory};
+use cc_typed::{Function, Kind, ProgramParts, Site, Transaction, typed_program};
 use sqlite_items::Items;
 use std::alloc::Global;
 use std::marker::Model;
-
-/// The parts of a program, of which nothing is known.
-#[derive(Drop)]
-pub struct ProgramParts {
-    pub kinds: Items<Kind>,
-    pub functions: Items<Function>,
-    pub transactions: Items<Transaction>,
-    pub sites: Items<Site>,
-    pub formats: Items<Bytes>,
-}
 
 /// A typed program. Each number in it names a thing that is there, its phrases have the types that they want, and `main`
 /// is kind 0, without parameters. Transactions, functions and accept sites are numbered over the whole text as written.
@@ -32,12 +21,12 @@ pub struct Program {
 
 impl Model for Program {
     ghost use Rattle.std.specs.Prelude.{◌≡◌, true};
-    ghost use Rattle.cc_source.specs.Parts.{Parts};
-    ghost use Rattle.cc_source.specs.Typed.{is_typed_program};
+    ghost use Rattle.cc_typed.specs.Parts.{Parts};
+    ghost use Rattle.cc_typed.specs.Typed.{is_typed_program};
     ghost use Rattle.std.specs.Coded.{codes};
-    ghost use Rattle.cc_source.specs.contracts.tree.DataType as data_type;
-    ghost use Rattle.cc_source.specs.contracts.tree.Expression as expression;
-    ghost use Rattle.cc_source.specs.contracts.tree.Statement as statement;
+    ghost use Rattle.cc_typed.specs.contracts.tree.DataType as data_type;
+    ghost use Rattle.cc_typed.specs.contracts.tree.Expression as expression;
+    ghost use Rattle.cc_typed.specs.contracts.tree.Statement as statement;
 
     ghost Value = { Parts };
 

@@ -4,8 +4,8 @@ ghost use Rattle.cc_source.specs.Gives.{GivesBy, IsValue, left};
 ghost use Rattle.cc_source.specs.Meaning.{value_at};
 ghost use Rattle.cc_source.specs.declared.run.Stop.TheVariants as stop;
 
-use crate::value::Value;
 use cc_base::{Grant, Memory, Request};
+use cc_typed::Value;
 use sqlite_items::Items;
 use std::alloc::{AllocError, Global};
 
@@ -60,7 +60,7 @@ impl<'g> Run<'g> {
     }
 
     /// The value of a variable; 0 where there is none of this number.
-    #[tactic(auto, using(crate::proofs::Values::items))]
+    #[tactic(auto, using(crate::proofs::StraightValues::items))]
     pub(crate) fn value(&self, alloc: Global, variable: u32) -> Result<Value, Stop>
         ensures { IsValue result (value_at self.now.scope variable) }
     {

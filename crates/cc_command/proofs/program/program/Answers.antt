@@ -1,7 +1,7 @@
 use Rattle.std.proofs.Common.{◌≡◌, ◌∙◌, ap, false, true}
 use Rattle.cc_command.proofs.Typing.{program-straight, program-typed}
 use Rattle.cc_source.specs.Straight.{is_straight_program}
-use Rattle.cc_source.specs.Typed.{is_typed_program}
+use Rattle.cc_typed.specs.Typed.{is_typed_program}
 use Rattle.cc_command.proofs.program.program.Goals as goal
 
 pub of-program-requires : goal.of-program-requires

@@ -1,7 +1,7 @@
 use Rattle.std.proofs.Common.{ap, ◌∙◌}
-use Rattle.cc_source.specs.declared.tree.DataType.{Int}
-use Rattle.cc_source.specs.declared.tree.Expression.{Constant, PutChar}
-use Rattle.cc_source.specs.declared.tree.Statement.{Evaluate}
+use Rattle.cc_typed.specs.declared.tree.DataType.{Int}
+use Rattle.cc_typed.specs.declared.tree.Expression.{Constant, PutChar}
+use Rattle.cc_typed.specs.declared.tree.Statement.{Evaluate}
 use Rattle.cc_command.proofs.program.put_statement.Goals as goal
 
 pub returns : goal.returns

@@ -1,6 +1,6 @@
 use Rattle.std.proofs.Common.{◌≡◌, ◌++◌, drop, map}
 use Rattle.cc_source.specs.Meaning.{value_at}
-use Rattle.cc_source.specs.Values.{flats}
+use Rattle.cc_typed.specs.Values.{flats}
 use Rattle.cc_source.proofs.plain.environment_cells.Given as goal
 
 abbrev pub invariant-loop-variable : goal.invariant-loop-variable

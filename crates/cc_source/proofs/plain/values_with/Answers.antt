@@ -1,6 +1,6 @@
 use Rattle.std.proofs.Common.{◌≡◌, ◌+◌, pos, [], ◌∷◌, ◌++◌, length, drop, get_or, ap, sym, ◌∙◌, append_assoc, length-append}
-use Rattle.cc_source.specs.Values.{unflats}
-use Rattle.cc_source.specs.declared.value.Value.{Number}
+use Rattle.cc_typed.specs.Values.{unflats}
+use Rattle.cc_typed.specs.declared.value.Value.{Number}
 use Rattle.cc_source.specs.Unflats.{unflats-step}
 use Rattle.cc_source.proofs.plain.values_with.Goals as goal
 

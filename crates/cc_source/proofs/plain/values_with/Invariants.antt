@@ -1,5 +1,5 @@
 use Rattle.std.proofs.Common.{◌≡◌, ◌++◌, drop, length}
-use Rattle.cc_source.specs.Values.{unflats}
+use Rattle.cc_typed.specs.Values.{unflats}
 use Rattle.cc_source.proofs.plain.values_with.Given as goal
 
 abbrev pub invariant-loop-data_type : goal.invariant-loop-data_type

@@ -1,6 +1,0 @@
-use Rattle.std.proofs.Common.{◌≡◌, drop}
-use Rattle.cc_source.specs.Clauses.{is_among}
-use Rattle.cc_source.proofs.clauses.among.Given as goal
-
-abbrev pub invariant-loop-x : goal.invariant-loop-x
-invariant-loop-x l = is_among (drop l.x-index l.seen) l.variable ≡ is_among l.seen l.variable

@@ -1,0 +1,11 @@
+pub mod Conversions
+pub mod DataTypes
+pub mod ExpressionTypes
+pub mod Noted
+pub mod PlaceReads
+pub mod PlaceTypes
+pub mod Pure
+pub mod TypedExpressions
+pub mod TypedPrograms
+pub mod TypedStatements
+pub mod Values

@@ -1,0 +1,14 @@
+pub mod Checked
+pub mod ClauseLists
+pub mod Clauses
+pub mod Formats
+pub mod KnownTypes
+pub mod Missing
+pub mod Numbers
+pub mod Parts
+pub mod Phrases
+pub mod Sequences
+pub mod Typed
+pub mod TypedLists
+pub mod Types
+pub mod Values

@@ -1,0 +1,267 @@
+ghost use Rattle.std.specs.Prelude.{◌≡◌, ◌-◌, true, OnOk};
+ghost use Rattle.std.specs.List.{list_all};
+ghost use Rattle.cc_typed.specs.Clauses.{all_noted, are_numbers, clause_noted, is_among, is_own, is_pure, is_pure_place, noted, place_noted};
+ghost use Rattle.cc_typed.specs.ClauseLists.{comparisons_noted_in, operations_noted_in, row_noted_in};
+
+use crate::tree::{Compared, Expression, Location, Operation};
+use sqlite_items::Items;
+use std::alloc::AllocError;
+
+/// The variables that are an accept's own: so many from the first on.
+#[derive(Clone, Copy)]
+pub(crate) struct Own {
+    pub first: u32,
+    pub count: usize,
+}
+
+#[cycle(pure_expressions)]
+#[tactic(auto, using(crate::proofs::Pure::pure_places))]
+fn pure_place(depth: u32, place: &Location) -> bool
+    ensures { result ≡ is_pure_place depth place.now }
+{
+    match place {
+        Location::Variable { .. } => 0 < depth,
+        Location::Field { of, .. } => pure_place(depth, of.get()),
+        Location::Element { of, index, .. } => pure_place(depth, of.get())
+            && pure(depth.saturating_sub(1), index.get()),
+    }
+}
+
+/// Whether an expression is pure and no deeper than this.
+#[cycle(pure_expressions)]
+#[tactic(auto, using(crate::proofs::Pure::pure_expressions))]
+pub(crate) fn pure(depth: u32, e: &Expression) -> bool
+    ensures { result ≡ is_pure depth e.now }
+{
+    match e {
+        Expression::Constant { .. } => 0 < depth,
+        Expression::Read { from } => pure_place(depth, from),
+        Expression::Negate { operand, .. } => pure(depth, operand.get()),
+        Expression::Not { operand } => pure(depth, operand.get()),
+        Expression::Plus { operand, .. } => pure(depth, operand.get()),
+        Expression::Parenthesized { operand, .. } => pure(depth, operand.get()),
+        Expression::Arithmetic { first, rest, .. } => pure(depth, first.get())
+            && pure_operations(depth.saturating_sub(1), rest.as_slice()),
+        Expression::Compare { first, rest } => pure(depth, first.get())
+            && pure_comparisons(depth.saturating_sub(1), rest.as_slice()),
+        Expression::Both { first, rest } => pure(depth, first.get())
+            && pure_row(depth, rest.as_slice()),
+        Expression::Either { first, rest } => pure(depth, first.get())
+            && pure_row(depth, rest.as_slice()),
+        Expression::Choose {
+            condition,
+            yes,
+            no,
+            ..
+        } => pure(depth, condition.get()) && pure(depth, yes.get()) && pure(depth, no.get()),
+        Expression::GetChar
+        | Expression::FieldOf { .. }
+        | Expression::ElementOf { .. }
+        | Expression::StepBefore { .. }
+        | Expression::StepAfter { .. }
+        | Expression::Assign { .. }
+        | Expression::Update { .. }
+        | Expression::CallFunction { .. }
+        | Expression::CreateProcess { .. }
+        | Expression::Transact { .. }
+        | Expression::SendTo { .. }
+        | Expression::Within { .. }
+        | Expression::PutChar { .. }
+        | Expression::PrintFormat { .. } => false,
+    }
+}
+
+#[cycle(pure_expressions)]
+#[tactic(auto, using(crate::proofs::Pure::pure_expressions))]
+fn pure_operations(depth: u32, rest: &[Operation]) -> bool
+    ensures { result ≡ list_all (λ o. is_pure depth o.operand) rest.now }
+{
+    for operation in rest {
+        if !pure(depth, &operation.operand) {
+            return false;
+        }
+    }
+    true
+}
+
+#[cycle(pure_expressions)]
+#[tactic(auto, using(crate::proofs::Pure::pure_expressions))]
+fn pure_comparisons(depth: u32, rest: &[Compared]) -> bool
+    ensures { result ≡ list_all (λ c. is_pure depth c.operand) rest.now }
+{
+    for compared in rest {
+        if !pure(depth, &compared.operand) {
+            return false;
+        }
+    }
+    true
+}
+
+#[cycle(pure_expressions)]
+#[tactic(auto, using(crate::proofs::Pure::pure_expressions))]
+fn pure_row(depth: u32, rest: &[Expression]) -> bool
+    ensures { result ≡ list_all (is_pure depth) rest.now }
+{
+    for e in rest {
+        if !pure(depth, e) {
+            return false;
+        }
+    }
+    true
+}
+
+fn among(seen: &[u32], variable: u32) -> bool
+    ensures { result ≡ is_among seen.now variable }
+{
+    for x in seen {
+        if *x == variable {
+            return true;
+        }
+    }
+    false
+}
+
+/// Notes a variable, unless it was seen or is the accept's own.
+fn note(own: Own, seen: &mut Items<u32>, variable: u32) -> Result<(), AllocError>
+    ensures { OnOk result (seen.new ≡ noted own seen.old variable) }
+{
+    let is_own = own.first <= variable && ((variable - own.first) as usize) < own.count;
+    if !is_own && !among(seen.as_slice(), variable) {
+        seen.push(variable)?;
+    }
+    Ok(())
+}
+
+#[cycle(noted_expressions)]
+#[tactic(auto, using(crate::proofs::Noted::noted_expressions))]
+fn note_place(own: Own, seen: &mut Items<u32>, place: &Location) -> Result<(), AllocError>
+    ensures { OnOk result (seen.new ≡ place_noted own seen.old place.now) }
+{
+    match place {
+        Location::Variable { number, .. } => note(own, seen, *number),
+        Location::Field { of, .. } => note_place(own, seen, of.get()),
+        Location::Element { of, index, .. } => {
+            note_place(own, seen, of.get())?;
+            note_all(own, seen, index.get())
+        }
+    }
+}
+
+/// Notes the variables of a pure expression.
+#[cycle(noted_expressions)]
+#[tactic(auto, using(crate::proofs::Noted::noted_expressions))]
+fn note_all(own: Own, seen: &mut Items<u32>, e: &Expression) -> Result<(), AllocError>
+    ensures { OnOk result (seen.new ≡ all_noted own seen.old e.now) }
+{
+    match e {
+        Expression::Read { from } => note_place(own, seen, from),
+        Expression::Negate { operand, .. } => note_all(own, seen, operand.get()),
+        Expression::Not { operand } => note_all(own, seen, operand.get()),
+        Expression::Plus { operand, .. } => note_all(own, seen, operand.get()),
+        Expression::Parenthesized { operand, .. } => note_all(own, seen, operand.get()),
+        Expression::Arithmetic { first, rest, .. } => {
+            note_all(own, seen, first.get())?;
+            note_operations(own, seen, rest.as_slice())
+        }
+        Expression::Compare { first, rest } => {
+            note_all(own, seen, first.get())?;
+            note_comparisons(own, seen, rest.as_slice())
+        }
+        Expression::Both { first, rest } => {
+            note_all(own, seen, first.get())?;
+            note_row(own, seen, rest.as_slice())
+        }
+        Expression::Either { first, rest } => {
+            note_all(own, seen, first.get())?;
+            note_row(own, seen, rest.as_slice())
+        }
+        Expression::Choose {
+            condition,
+            yes,
+            no,
+            ..
+        } => {
+            note_all(own, seen, condition.get())?;
+            note_all(own, seen, yes.get())?;
+            note_all(own, seen, no.get())
+        }
+        Expression::Constant { .. }
+        | Expression::GetChar
+        | Expression::FieldOf { .. }
+        | Expression::ElementOf { .. }
+        | Expression::StepBefore { .. }
+        | Expression::StepAfter { .. }
+        | Expression::Assign { .. }
+        | Expression::Update { .. }
+        | Expression::CallFunction { .. }
+        | Expression::CreateProcess { .. }
+        | Expression::Transact { .. }
+        | Expression::SendTo { .. }
+        | Expression::Within { .. }
+        | Expression::PutChar { .. }
+        | Expression::PrintFormat { .. } => Ok(()),
+    }
+}
+
+#[cycle(noted_expressions)]
+#[tactic(auto, using(crate::proofs::Noted::noted_expressions))]
+fn note_operations(own: Own, seen: &mut Items<u32>, rest: &[Operation]) -> Result<(), AllocError>
+    ensures { OnOk result (seen.new ≡ operations_noted_in own seen.old rest.now) }
+{
+    for operation in rest {
+        note_all(own, seen, &operation.operand)?;
+    }
+    Ok(())
+}
+
+#[cycle(noted_expressions)]
+#[tactic(auto, using(crate::proofs::Noted::noted_expressions))]
+fn note_comparisons(own: Own, seen: &mut Items<u32>, rest: &[Compared]) -> Result<(), AllocError>
+    ensures { OnOk result (seen.new ≡ comparisons_noted_in own seen.old rest.now) }
+{
+    for compared in rest {
+        note_all(own, seen, &compared.operand)?;
+    }
+    Ok(())
+}
+
+#[cycle(noted_expressions)]
+#[tactic(auto, using(crate::proofs::Noted::noted_expressions))]
+fn note_row(own: Own, seen: &mut Items<u32>, rest: &[Expression]) -> Result<(), AllocError>
+    ensures { OnOk result (seen.new ≡ row_noted_in own seen.old rest.now) }
+{
+    for e in rest {
+        note_all(own, seen, e)?;
+    }
+    Ok(())
+}
+
+/// Notes the variables of a clause, where it is there.
+pub(crate) fn note_clause(
+    own: Own,
+    seen: &mut Items<u32>,
+    clause: &Option<Expression>,
+) -> Result<(), AllocError>
+    ensures { OnOk result (seen.new ≡ clause_noted own seen.old clause.now) }
+{
+    match clause {
+        None => Ok(()),
+        Some(e) => note_all(own, seen, e),
+    }
+}
+
+/// Whether two lists have the same numbers in order.
+#[tactic(auto, using(crate::proofs::Noted::numbers))]
+pub(crate) fn same_numbers(xs: &[u32], ys: &[u32]) -> bool
+    ensures { result ≡ are_numbers xs.now ys.now }
+{
+    if xs.len() != ys.len() {
+        return false;
+    }
+    for at in 0..xs.len() {
+        if xs[at] != ys[at] {
+            return false;
+        }
+    }
+    true
+}

@@ -1,0 +1,70 @@
+ghost use Rattle.std.specs.Prelude.{◌≡◌, ◌<◌, ◌+◌, ◌^◌, ◌≤◌, [], ◌∷◌, ℕ, List, IfSome};
+ghost use Rattle.cc_typed.specs.Formats.{conversions, conversions_after, conversions_in};
+
+/// Where the reading of a format stands.
+#[derive(Clone, Copy)]
+pub(crate) enum Reading {
+    Plain,
+    /// After a `%`.
+    Signed,
+    /// After `%l`.
+    Long,
+}
+
+/// Where the reading stands after one more byte, and how many conversions there are by then; none where a `%` begins no
+/// conversion.
+#[tactic(auto, using(crate::proofs::Conversions::readings))]
+fn read_byte(reading: Reading, count: usize, byte: u8) -> Option<(Reading, usize)>
+    requires { count + 1 < 2 ^ 64 }
+    ensures more { (rest : List ℕ) → conversions_in reading count (byte ∷ rest) ≡ conversions_after result rest }
+    ensures few { IfSome result (λ step. step.1 ≤ count + 1) }
+{
+    match reading {
+        Reading::Plain => if byte == b'%' {
+            Some((Reading::Signed, count))
+        } else {
+            Some((Reading::Plain, count))
+        },
+        Reading::Signed => if byte == b'%' {
+            Some((Reading::Plain, count))
+        } else if byte == b'd' || byte == b'c' {
+            Some((Reading::Plain, count + 1))
+        } else if byte == b'l' {
+            Some((Reading::Long, count))
+        } else {
+            None
+        },
+        Reading::Long => if byte == b'd' {
+            Some((Reading::Plain, count + 1))
+        } else {
+            None
+        },
+    }
+}
+
+/// How many conversions there are where the format ends here.
+#[tactic(auto, using(crate::proofs::Conversions::ends))]
+fn read_end(reading: Reading, count: usize) -> Option<usize>
+    ensures { result ≡ conversions_in reading count [] }
+{
+    match reading {
+        Reading::Plain => Some(count),
+        Reading::Signed => None,
+        Reading::Long => None,
+    }
+}
+
+/// How many numbers a format takes; none where a `%` begins no conversion.
+#[tactic(auto, using(crate::proofs::Conversions::readings, crate::proofs::Conversions::ends))]
+pub(crate) fn conversions(format: &[u8]) -> Option<usize>
+    ensures { result ≡ conversions 0 format.now }
+{
+    let mut reading = Reading::Plain;
+    let mut count = 0;
+    for byte in format {
+        let (next, counted) = read_byte(reading, count, *byte)?;
+        reading = next;
+        count = counted;
+    }
+    read_end(reading, count)
+}
