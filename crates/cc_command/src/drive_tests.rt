@@ -1,6 +1,11 @@
-use cc_base::{Bytes, CallId, Cells, FaultKind, Memory, Pid};
+ghost use Rattle.cc_base.specs.Served.{IsServed};
+ghost use Rattle.cc_base.specs.declared.request.Grant.{Grant};
+ghost use Rattle.std.specs.Prelude.{◌≡◌, ℕ, ℤ, List};
+
+use cc_base::{Behave, Bytes, CallId, Cells, FaultKind, Memory, Pid};
+use cc_kernel::Kernel;
 use cc_pool::{Driven, Stop, drive};
-use cc_rules::{Event, Standing, Word};
+use cc_rules::{Event, Faults, Journal, Standing, Word};
 use cc_source::{
     AcceptPart, Argument, DataType, Early, Expression, Kind, Location, Program, ProgramParts, Site,
     Statement, Transaction,
@@ -223,6 +228,15 @@ fn nobody(alloc: Global) -> Result<ProgramParts, Memory> {
     program(alloc, main, idle(alloc), Items::new(alloc), transaction)
 }
 
+/// The program of these parts.
+fn straight(rt: &impl Abort, alloc: Global, parts: Result<ProgramParts, Memory>) -> Arc<Early> {
+    let parts = parts.expect(rt, "memory");
+    let typed = Program::new(alloc, parts).expect(rt, "memory");
+    let program = typed.expect(rt, "typed");
+    let straight = Early::new(program).expect(rt, "straight");
+    Arc::new(alloc, straight).expect(rt, "memory")
+}
+
 /// Runs the program of these parts.
 fn run(
     rt: &impl Abort,
@@ -230,11 +244,7 @@ fn run(
     parts: Result<ProgramParts, Memory>,
     turns: u32,
 ) -> Driven<MemSink> {
-    let parts = parts.expect(rt, "memory");
-    let typed = Program::new(alloc, parts).expect(rt, "memory");
-    let program = typed.expect(rt, "typed");
-    let straight = Early::new(program).expect(rt, "straight");
-    let code = Arc::new(alloc, straight).expect(rt, "memory");
+    let code = straight(rt, alloc, parts);
     let out = MemSink::new(alloc, 64, Cells::new(alloc));
     drive(alloc, &code, Bytes::new(alloc), turns, out)
 }
@@ -246,39 +256,145 @@ fn ask(pid: u32, word: Word) -> Event {
     }
 }
 
-/// The run stands so, printed these bytes, and has this journal.
-fn leaves(ran: &Driven<MemSink>, standing: Standing, printed: &[u8], events: &[Event]) -> bool {
-    if ran.stop != Stop::Over || ran.standing != standing || ran.journal.len() != events.len() {
-        return false;
-    }
+fn has_events(journal: &Journal, events: &[Event]) -> bool {
     for (at, event) in events.iter().enumerate() {
-        if ran.journal.get(at) != Some(event) {
+        if journal.get(at) != Some(event) {
             return false;
         }
     }
-    ran.out.bytes().as_slice() == printed
+    journal.len() == events.len()
 }
+
+/// The run stands so, printed these bytes, and has this journal.
+fn leaves(ran: &Driven<MemSink>, standing: Standing, printed: &[u8], events: &[Event]) -> bool {
+    ran.stop == Stop::Over
+        && ran.standing == standing
+        && has_events(&ran.journal, events)
+        && ran.out.bytes().as_slice() == printed
+}
+
+/// The events of a caller and a server that meet once.
+const MEETING: [Event; 9] = [
+    Event::Ask {
+        pid: Pid(0),
+        word: Word::Create,
+    },
+    Event::Ask {
+        pid: Pid(0),
+        word: Word::Call,
+    },
+    Event::Ask {
+        pid: Pid(1),
+        word: Word::Select,
+    },
+    Event::Accept {
+        pid: Pid(1),
+        alt: 0,
+        call: CallId(0),
+    },
+    Event::Ask {
+        pid: Pid(1),
+        word: Word::Print,
+    },
+    Event::Ask {
+        pid: Pid(1),
+        word: Word::Reply,
+    },
+    Event::Ask {
+        pid: Pid(0),
+        word: Word::Print,
+    },
+    Event::Ask {
+        pid: Pid(0),
+        word: Word::Done,
+    },
+    Event::Ask {
+        pid: Pid(1),
+        word: Word::Done,
+    },
+];
 
 #[test]
 fn two_processes_meet(rt: HostRuntime) {
     let ran = run(&rt, rt.alloc(), rendezvous(rt.alloc()), 1_000_000);
-    let events = [
-        ask(0, Word::Create),
-        ask(0, Word::Call),
-        ask(1, Word::Select),
-        Event::Accept {
-            pid: Pid(1),
-            alt: 0,
-            call: CallId(0),
-        },
-        ask(1, Word::Print),
-        ask(1, Word::Reply),
-        ask(0, Word::Print),
-        ask(0, Word::Done),
-        ask(1, Word::Done),
-    ];
-    assert!(rt; leaves(&ran, Standing::Ended { faulted: false }, b"AB", &events));
+    assert!(rt; leaves(&ran, Standing::Ended { faulted: false }, b"AB", &MEETING));
     assert_eq!(rt; ran.faults.len(), 0);
+}
+
+/// The process that is ready goes on with its grant, and what it asks is done. None where none is ready.
+fn slice<B: Behave>(
+    kernel: &mut Kernel<B>,
+    alloc: Global,
+    printed: &mut Bytes,
+) -> Result<Option<Pid>, Memory>
+    requires served { (kind : ℕ) (args : List ℤ) (grants : List Grant) → IsServed ((B.means kernel.old.code).act kind args grants) }
+    ensures code { kernel.new.code ≡ kernel.old.code }
+{
+    let Some((pid, mut process, grant)) = kernel.pick() else {
+        return Ok(None);
+    };
+    let request = B::go(&mut process, alloc, grant)?;
+    kernel.prepare(Some(&request))?;
+    let bytes = kernel.commit(pid, process, request);
+    printed.append(bytes.as_slice())?;
+    Ok(Some(pid))
+}
+
+/// Whether these processes go on, one after the other.
+fn go_on<B: Behave>(
+    kernel: &mut Kernel<B>,
+    alloc: Global,
+    printed: &mut Bytes,
+    pids: &[u32],
+) -> Result<bool, Memory>
+    requires served { (kind : ℕ) (args : List ℤ) (grants : List Grant) → IsServed ((B.means kernel.old.code).act kind args grants) }
+{
+    for pid in pids {
+        if slice(kernel, alloc, printed)? != Some(Pid(*pid)) {
+            return Ok(false);
+        }
+    }
+    Ok(true)
+}
+
+/// What a kernel driven by hand leaves.
+#[derive(Drop)]
+struct Hand {
+    before: Standing,
+    went: bool,
+    after: Standing,
+    printed: Bytes,
+    journal: Journal,
+    faults: Faults,
+}
+
+/// A kernel of this program with 8 turns, of which these processes take one each.
+fn by_hand(alloc: Global, code: Arc<Early>, pids: &[u32]) -> Result<Hand, Memory> {
+    let mut kernel = Kernel::open(alloc, code, Bytes::new(alloc), 8)?;
+    let before = kernel.state();
+    let mut printed = Bytes::new(alloc);
+    let went = go_on(&mut kernel, alloc, &mut printed, pids)?;
+    let after = kernel.state();
+    let (journal, faults) = kernel.into_journal();
+    Ok(Hand {
+        before,
+        went,
+        after,
+        printed,
+        journal,
+        faults,
+    })
+}
+
+#[test]
+fn a_kernel_of_two_processes_is_driven_by_hand(rt: HostRuntime) {
+    let code = straight(&rt, rt.alloc(), rendezvous(rt.alloc()));
+    let hand = by_hand(rt.alloc(), code, &[0, 0, 1, 1, 1, 0, 0, 1]).expect(&rt, "memory");
+    assert!(rt; hand.before == Standing::Going && hand.went);
+    assert!(rt; hand.after == Standing::Ended { faulted: false });
+    assert!(rt; hand.printed.as_slice() == b"AB".as_slice());
+    assert!(rt; has_events(&hand.journal, &MEETING));
+    assert_eq!(rt; hand.faults.len(), 0);
 }
 
 #[test]
