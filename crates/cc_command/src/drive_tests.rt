@@ -1,6 +1,5 @@
-ghost use Rattle.cc_base.specs.Served.{IsServed};
-ghost use Rattle.cc_base.specs.declared.request.Grant.{Grant};
-ghost use Rattle.std.specs.Prelude.{◌≡◌, ℕ, ℤ, List};
+ghost use Rattle.cc_base.specs.Served.{AsksServed};
+ghost use Rattle.std.specs.Prelude.{◌≡◌};
 
 use cc_base::{Behave, Bytes, CallId, Cells, FaultKind, Memory, Pid};
 use cc_kernel::Kernel;
@@ -327,7 +326,7 @@ fn slice<B: Behave>(
     alloc: Global,
     printed: &mut Bytes,
 ) -> Result<Option<Pid>, Memory>
-    requires served { (kind : ℕ) (args : List ℤ) (grants : List Grant) → IsServed ((B.means kernel.old.code).act kind args grants) }
+    requires served { AsksServed (B.means kernel.old.code) }
     ensures code { kernel.new.code ≡ kernel.old.code }
 {
     let Some((pid, mut process, grant)) = kernel.pick() else {
@@ -347,7 +346,7 @@ fn go_on<B: Behave>(
     printed: &mut Bytes,
     pids: &[u32],
 ) -> Result<bool, Memory>
-    requires served { (kind : ℕ) (args : List ℤ) (grants : List Grant) → IsServed ((B.means kernel.old.code).act kind args grants) }
+    requires served { AsksServed (B.means kernel.old.code) }
 {
     for pid in pids {
         if slice(kernel, alloc, printed)? != Some(Pid(*pid)) {
