@@ -62,6 +62,12 @@ impl Tokens {
         self.items.get(at)
     }
 
+    pub fn as_slice(&self) -> &[Token]
+        ensures { result.now ≡ self.now.tokens }
+    {
+        self.items.as_slice()
+    }
+
     /// The place of the text's end.
     pub fn end(&self) -> Place
         ensures { result ≡ self.now.end }
