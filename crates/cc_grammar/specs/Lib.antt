@@ -1,0 +1,15 @@
+pub mod Begins
+pub mod Ebnf
+pub mod ExampleTrees
+pub mod Examples
+pub mod ExamplesHold
+pub mod Fronts
+pub mod Grammar
+pub mod Kinds
+pub mod Laws
+pub mod Phrases
+pub mod Productions
+pub mod Reading
+pub mod Sentences
+pub mod Symbols
+pub mod Trees

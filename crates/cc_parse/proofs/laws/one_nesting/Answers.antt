@@ -1,5 +1,0 @@
-use Rattle.cc_parse.proofs.Agree as agree
-use Rattle.cc_parse.proofs.laws.one_nesting.Goals as goal
-
-pub returns : goal.returns
-returns c = agree.same_nesting

@@ -1,5 +1,0 @@
-use Rattle.cc_parse.proofs.Computed as computed
-use Rattle.cc_parse.proofs.tests.nesting_of_texts.Goals as goal
-
-pub returns : goal.returns
-returns c = computed.nesting_hold
