@@ -23,14 +23,14 @@ argument_cells m trans = option_map (λ (shape : Shape). shape.args) (slice_get 
 abbrev pub value_cells : Meaning → ℕ → ℕ
 value_cells m trans = option_map_or (λ (shape : Shape). shape.value) (slice_get m.shapes trans) 0
 
--- the alternative accepts a call with these arguments
+-- the alternative is an accept whose transaction has this many argument cells
 abbrev pub TakesArgs : Meaning → Alt → List ℤ → Type 0
 TakesArgs m (Accept trans site env) args = argument_cells m trans ≡ Some (length args)
 TakesArgs m (After wait) args = ⊥
 TakesArgs m Now args = ⊥
 TakesArgs m Terminate args = ⊥
 
--- the alternative may be chosen without a call
+-- the alternative is no accept, so that it may be chosen without a call
 abbrev pub NeedsNoCall : Alt → Type 0
 NeedsNoCall (Accept trans site env) = ⊥
 NeedsNoCall (After wait) = Unit {0}

@@ -1,8 +1,11 @@
 pub mod Alternatives
+pub mod Formats
+pub mod Granted
 pub mod Grants
+pub mod Limits
 pub mod Loops
 pub mod Meaning
+pub mod Numbers
 pub mod Outcome
-pub mod Printing
 pub mod Requests
-pub mod Served
+pub mod Supported

@@ -1,5 +1,6 @@
 -- What evaluating a part of a program comes to, over any variables S: those of a text, or the cells of its code.
 use Rattle.std.specs.Prelude.{ℕ, zero, suc, ◌+◌, ◌-◌, ◌*◌, List, [], ◌∷◌, length}
+use Rattle.cc_base.specs.Limits.{ticks_granted}
 use Rattle.cc_base.specs.declared.request.Grant.{Grant}
 use Rattle.cc_base.specs.declared.request.Request.{Request}
 use Rattle.cc_base.specs.declared.request.Request.TheVariants.{Pause}
@@ -52,10 +53,6 @@ restored vars (Asked request) = Asked request
 
 abbrev pub inside : {S T A : Type 0} → T → Eval T A → Eval S A
 inside inner p = λ vars left. restored vars (p inner left)
-
--- how many ticks a grant gives
-abbrev pub ticks_granted : ℕ
-ticks_granted = 1000
 
 -- the next grant answers the request, and gives ticks anew; where none is left, the request is asked
 abbrev pub answered : {S : Type 0} → List Grant → Request → S → Outcome S Grant

@@ -6,10 +6,13 @@
 #![tactic(auto)]
 
 mod alternatives;
+pub mod arithmetic;
 mod behave;
 mod cells;
+pub mod limits;
 mod memory;
 mod names;
+mod numbers;
 mod request;
 
 pub use alternatives::{Alt, Alts};
@@ -17,7 +20,5 @@ pub use behave::Behave;
 pub use cells::{Bytes, Cells};
 pub use memory::Memory;
 pub use names::{CallId, FaultKind, Pid, Place, Shape};
+pub use numbers::{Comparison, NumberType, Operator};
 pub use request::{Grant, Request};
-
-#[cfg(test)]
-mod tests;

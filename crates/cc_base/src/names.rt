@@ -22,7 +22,7 @@ pub enum FaultKind {
     DivideByZero,
     /// An index outside its array.
     Index,
-    /// A call through a process variable that names no process.
+    /// A call of null, or of a number outside 1 to 4,294,967,296.
     NullProcess,
     /// The called process has ended, was stopped by a fault or was never made, or it was over before it answered.
     CalleeGone,
@@ -32,7 +32,7 @@ pub enum FaultKind {
     Depth,
     /// More than 65,536 cells of active variables.
     Cells,
-    /// The 4,097th process.
+    /// A `create` where 4,096 processes were made.
     TooMany,
 }
 

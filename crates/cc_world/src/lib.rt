@@ -29,6 +29,3 @@ pub use sink::{Sink, write_all};
 pub use source::Source;
 pub use step_clock::StepClock;
 pub use system::{DirShelf, RealClock, StdSink, StdSource};
-
-#[cfg(test)]
-mod tests;

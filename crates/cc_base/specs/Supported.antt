@@ -1,4 +1,4 @@
--- The requests that are served so far.
+-- The requests that the kernel can perform so far.
 use Rattle.std.specs.Prelude.{ℕ, ℤ, List, [], ◌∷◌, length}
 use Rattle.cc_base.specs.Grants.{HasKind, IsProper}
 use Rattle.cc_base.specs.Meaning.{Meaning}
@@ -22,24 +22,24 @@ IsOneAccept (a ∷ []) = IsAccept a.1
 IsOneAccept (a ∷ b ∷ alts) = ⊥
 
 -- the request has no deadline, is no asynchronous call, and no select but of one accept
-abbrev pub IsServed : Request → Type 0
-IsServed Pause = Unit {0}
-IsServed (Create kind args) = Unit {0}
-IsServed (Call target trans args) = Unit {0}
-IsServed (TimedCall target trans args wait) = ⊥
-IsServed (Send target trans args) = ⊥
-IsServed (Select alts) = IsOneAccept alts
-IsServed (Delay wait) = ⊥
-IsServed (Reply value) = Unit {0}
-IsServed (Print bytes) = Unit {0}
-IsServed Get = Unit {0}
-IsServed Done = Unit {0}
-IsServed (Fault kind) = Unit {0}
+abbrev pub IsSupported : Request → Type 0
+IsSupported Pause = Unit {0}
+IsSupported (Create kind args) = Unit {0}
+IsSupported (Call target trans args) = Unit {0}
+IsSupported (TimedCall target trans args wait) = ⊥
+IsSupported (Send target trans args) = ⊥
+IsSupported (Select alts) = IsOneAccept alts
+IsSupported (Delay wait) = ⊥
+IsSupported (Reply value) = Unit {0}
+IsSupported (Print bytes) = Unit {0}
+IsSupported Get = Unit {0}
+IsSupported Done = Unit {0}
+IsSupported (Fault kind) = Unit {0}
 
 -- what a process of a kind that exists asks after proper grants is such a request
-abbrev pub AsksServed : Meaning → Type 0
-AsksServed m =
+abbrev pub AsksSupported : Meaning → Type 0
+AsksSupported m =
     (kind : ℕ) (args : List ℤ) (grants : List Grant)
     → HasKind m kind (length args)
     → IsProper m kind args grants
-    → IsServed (m.act kind args grants)
+    → IsSupported (m.act kind args grants)

@@ -3,7 +3,7 @@ ghost use Rattle.cc_base.specs.Grants.{IsNext};
 ghost use Rattle.cc_base.specs.declared.request.Grant.{Grant};
 ghost use Rattle.cc_base.specs.declared.request.Grant.TheVariants.{Go};
 
-use crate::{Alt, Alts, Behave, Bytes, Cells, Grant, Memory, Pid, Request, Shape};
+use cc_base::{Alt, Alts, Behave, Bytes, Cells, Grant, Memory, Pid, Request, Shape};
 use std::alloc::Global;
 use std::rt::HostRuntime;
 use std::sync::Arc;
@@ -63,7 +63,7 @@ impl Behave for Letters {
     type Proc = Writer;
 
     ghost use Rattle.std.specs.Prelude.{◌≡◌, min, length};
-    ghost use Rattle.cc_base.specs.Printing.{printing, printing_well_formed, printing_has_sites};
+    ghost use Rattle.base_tests.specs.Printing.{printing, printing_well_formed, printing_has_sites};
 
     ghost means = { λ l. printing l.bytes.items };
 

@@ -1,8 +1,8 @@
-use crate::{
+use cc_base::{Bytes, Cells};
+use cc_world::{
     Clock, DirShelf, IoFault, MemShelf, MemSink, MemSource, Moments, RealClock, Shelf, Sink,
     Source, StdSink, StdSource, StepClock, write_all,
 };
-use cc_base::{Bytes, Cells};
 use std::alloc::Global;
 use std::fs;
 use std::rt::HostRuntime;
