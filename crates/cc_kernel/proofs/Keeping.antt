@@ -7,52 +7,53 @@ use Rattle.std.proofs.lemmas.List.{length-set, set-get_or}
 use Rattle.cc_base.specs.Meaning.{Meaning}
 use Rattle.cc_base.specs.declared.request.Grant.{Grant}
 use Rattle.cc_kernel.proofs.Seated.{Seated-at, Seated-out, ready-at}
-use Rattle.cc_kernel.specs.Held.{IsKept, IsReadyFor}
-use Rattle.cc_kernel.specs.Kept.{IsReady, IsState, Parts, Seated, parts}
+use Rattle.cc_kernel.specs.Invariant.{IsKept, IsReadyFor}
+use Rattle.cc_kernel.specs.Store.{IsReady, IsState, Contents, Seated, contents}
 use Rattle.cc_kernel.specs.Lists.{SeatList}
 use Rattle.cc_rules.specs.Lists.{FaultList}
 use Rattle.cc_kernel.specs.Seats.{is_served_by, seat_at, served_call, with_out}
 use Rattle.cc_kernel.specs.declared.served.ServedCall.{ServedCall}
-use Rattle.cc_kernel.specs.declared.kept.Kept.{Kept}
+use Rattle.cc_kernel.specs.declared.store.Store.{Store}
 use Rattle.cc_kernel.specs.declared.need.Need.{Need}
 use Rattle.cc_kernel.specs.declared.need.Need.TheVariants as need
-use Rattle.cc_kernel.specs.declared.seat.Place.TheVariants.{Ready}
+use Rattle.cc_kernel.specs.declared.seat.Whereabouts.TheVariants.{Ready}
 use Rattle.cc_kernel.specs.declared.seat.Seat.{Seat}
 use Rattle.cc_base.specs.declared.names.Pid.{Pid}
 use Rattle.cc_base.specs.declared.request.Request.{Request}
 use Rattle.cc_base.specs.declared.request.Request.TheVariants as request
-use Rattle.cc_kernel.proofs.Plain.{not-due, quiet-parts, settled-parts}
+use Rattle.cc_kernel.proofs.Plain.{not-due, quiet-contents, settled-contents}
 use Rattle.cc_kernel.proofs.Seated.{plain-at}
 use Rattle.cc_kernel.proofs.Settling.{any-time}
 use Rattle.cc_kernel.specs.Settles.{Settles}
 use Rattle.cc_rules.proofs.GoOn.{IsRunFrom-append, IsSettledFrom-append, after-append, turns-append}
+use Rattle.cc_rules.proofs.QuietEvents.{settling-settled, settling-turns}
 use Rattle.cc_rules.specs.Effects.{effect}
 use Rattle.cc_rules.specs.Choice.{is_acceptable}
 use Rattle.cc_rules.specs.Ends.{is_due}
 use Rattle.cc_rules.specs.Events.{is_legal, next, request_at, same_word, word_of}
-use Rattle.cc_rules.specs.Runs.{IsRun, IsSettled, IsSettledFrom, IsSettledRun, after, is_turn, state_after, turns}
+use Rattle.cc_rules.specs.Runs.{IsRun, IsSettledRun, after, state_after, turns}
 use Rattle.cc_rules.specs.State.{State, first_state, is_running, process_at}
 use Rattle.cc_rules.specs.declared.event.Event.{Event}
 use Rattle.cc_rules.specs.declared.event.Event.TheVariants.{Ask}
 
 module _ {P : Type 0} (m : Meaning) (located : P → ℕ → List ℤ → List Grant → Type 0) where
   ready-seats :
-      (kept : Kept P) (room : ℕ) (x : Need P) (seats : SeatList P)
-      → seats.spare ≡ kept.seats.spare
-      → IsReadyFor m located kept room x
-      → IsReadyFor m located (record kept { seats = seats }) room x
-  ready-seats kept room need.Nothing seats e h = tt
-  ready-seats kept room need.Step seats e h = (h.0, h.1, h.2, rw e h.3)
-  ready-seats kept room (need.Making kind args process) seats e h = ((h.0.0, h.0.1, h.0.2, rw e h.0.3), h.1)
-  ready-seats kept room (need.Answering value zeros) seats e h = ((h.0.0, h.0.1, h.0.2, rw e h.0.3), h.1)
-  ready-seats kept room need.Moment seats e h = (h.0, h.1, h.2, rw e h.3)
+      (store : Store P) (room : ℕ) (x : Need P) (seats : SeatList P)
+      → seats.spare ≡ store.seats.spare
+      → IsReadyFor m located store room x
+      → IsReadyFor m located (record store { seats = seats }) room x
+  ready-seats store room need.Nothing seats e h = tt
+  ready-seats store room need.Step seats e h = (h.0, h.1, h.2, rw e h.3)
+  ready-seats store room (need.Making kind args process) seats e h = ((h.0.0, h.0.1, h.0.2, rw e h.0.3), h.1)
+  ready-seats store room (need.Answering value zeros) seats e h = ((h.0.0, h.0.1, h.0.2, rw e h.0.3), h.1)
+  ready-seats store room need.Moment seats e h = (h.0, h.1, h.2, rw e h.3)
 
   -- a process that is ready goes out
   state-out :
-      (s : State) (x : Parts P) (i : ℕ) (process : P) (grant : Grant)
+      (s : State) (x : Contents P) (i : ℕ) (process : P) (grant : Grant)
       → IsState located s x
       → i < length x.seats
-      → (seat_at x.seats i).place ≡ Ready process grant
+      → (seat_at x.seats i).whereabouts ≡ Ready process grant
       → IsState located s (record x { seats = set x.seats i (with_out (seat_at x.seats i)) })
   state-out s x i process grant k lt e =
       let r = ready-at located (process_at s.processes i) (seat_at x.seats i) process grant (Seated-at located s.processes x.seats i lt k.seated) e in
@@ -70,23 +71,23 @@ module _ {P : Type 0} (m : Meaning) (located : P → ℕ → List ℤ → List G
       }
 
   pub kept-out :
-      (allowed spent : ℕ) (events : List Event) (room : ℕ) (kept : Kept P) (x : Need P) (faults : FaultList) (seats : SeatList P) (i : ℕ) (process : P) (grant : Grant)
-      → IsKept m located allowed spent events room kept x faults
-      → i < length kept.seats.items
-      → (seat_at kept.seats.items i).place ≡ Ready process grant
-      → seats.items ≡ set kept.seats.items i (with_out (seat_at kept.seats.items i))
-      → seats.spare ≡ kept.seats.spare
-      → IsKept m located allowed spent events room (record kept { seats = seats }) x faults
-  kept-out allowed spent events room kept x faults seats i process grant k lt e same spare =
+      (allowed spent : ℕ) (events : List Event) (room : ℕ) (store : Store P) (x : Need P) (faults : FaultList) (seats : SeatList P) (i : ℕ) (process : P) (grant : Grant)
+      → IsKept m located allowed spent events room store x faults
+      → i < length store.seats.items
+      → (seat_at store.seats.items i).whereabouts ≡ Ready process grant
+      → seats.items ≡ set store.seats.items i (with_out (seat_at store.seats.items i))
+      → seats.spare ≡ store.seats.spare
+      → IsKept m located allowed spent events room (record store { seats = seats }) x faults
+  kept-out allowed spent events room store x faults seats i process grant k lt e same spare =
       record {
         runs = k.runs;
         settled = k.settled;
-        state = rw same (state-out (state_after m kept.input events) (parts kept) i process grant k.state lt e);
+        state = rw same (state-out (state_after m store.input events) (contents store) i process grant k.state lt e);
         quiet = k.quiet;
         spent_turns = k.spent_turns;
         within = k.within;
         low = k.low;
-        ready = ready-seats kept room x seats spare k.ready;
+        ready = ready-seats store room x seats spare k.ready;
         unlisted = k.unlisted;
         listable = k.listable;
       }
@@ -95,29 +96,12 @@ module _ {P : Type 0} (m : Meaning) (located : P → ℕ → List ℤ → List G
       (input : List ℕ) (events : List Event) (seats : List (Seat P)) (i : ℕ) (process : P) (grant : Grant)
       → Seated located (state_after m input events).processes seats
       → i < length seats
-      → (seat_at seats i).place ≡ Ready process grant
+      → (seat_at seats i).whereabouts ≡ Ready process grant
       → IsReady located (process_at (state_after m input events).processes i) process grant
   kept-ready input events seats i process grant k lt e =
       ready-at located (process_at (state_after m input events).processes i) (seat_at seats i) process grant
       (Seated-at located (state_after m input events).processes seats i lt k)
       e
-
--- after events that are no turns, a run is settled where its last state is
-quiet-settled :
-    (m : Meaning) (s : State) (events : List Event)
-    → turns events ≡ 0
-    → IsSettled m (after m s events)
-    → IsSettledFrom m s events
-quiet-settled m s [] h k = k
-quiet-settled m s (e ∷ events) h k =
-    elim (is_turn e) as (λ b. is_turn e ≡ b → 0 + cond b 1 0 + turns events ≡ 0 → (is_turn e ≡ true → IsSettled m s) × IsSettledFrom m (next m s e) events) [
-      | true ↦ λ same zero-turns. absurd (omega (arith, zero-turns))
-      | false ↦ λ same zero-turns. (λ turn. absurd (not-both (is_turn e) turn same), quiet-settled m (next m s e) events (omega (arith, zero-turns)) k)
-    ] refl (sym (turns-append (e ∷ []) events) ∙ h)
-  where
-    not-both : (b : Bool) → b ≡ true → b ≡ false → ⊥
-    not-both true h k = cc
-    not-both false h k = cc
 
 same_word-same : (r : Request) → same_word (word_of r) (word_of r) ≡ true
 same_word-same request.Pause = refl
@@ -145,31 +129,31 @@ legal-ask m s p r due h e = rw (due, h, e) (same_word-same (request_at m s p))
 module _ {P : Type 0} (m : Meaning) (located : P → ℕ → List ℤ → List Grant → Type 0) where
   -- the kernel goes on with what a process asks, and settles
   pub kept-commit :
-      (allowed spent : ℕ) (events more : List Event) (room room' : ℕ) (kept asked kept' : Kept P) (x : Need P) (faults : FaultList) (p : Pid) (r : Request)
-      → IsKept m located allowed spent events room kept x faults
-      → is_running (process_at (state_after m kept.input events).processes p.0).standing ≡ true
-      → r ≡ request_at m (state_after m kept.input events) p
+      (allowed spent : ℕ) (events more : List Event) (room room' : ℕ) (store asked store' : Store P) (x : Need P) (faults : FaultList) (p : Pid) (r : Request)
+      → IsKept m located allowed spent events room store x faults
+      → is_running (process_at (state_after m store.input events).processes p.0).standing ≡ true
+      → r ≡ request_at m (state_after m store.input events) p
       → spent < allowed
-      → asked.drawn ≤ kept.drawn + 1
-      → kept'.drawn ≡ asked.drawn
-      → kept'.input ≡ kept.input
-      → IsState located (effect m (state_after m kept.input events) p r) (parts asked)
-      → ((s : State) → IsState located s (parts asked) → Settles m located s (events ++ Ask p (word_of r) ∷ []) more (parts kept'))
-      → IsKept m located allowed (spent + 1) more room' kept' need.Nothing faults
-  kept-commit allowed spent events more room room' kept asked kept' x faults p r k running asks left low same-drawn same-input st settles =
-      let s = state_after m kept.input events in
-      let first = first_state kept.input in
+      → asked.drawn ≤ store.drawn + 1
+      → store'.drawn ≡ asked.drawn
+      → store'.input ≡ store.input
+      → IsState located (effect m (state_after m store.input events) p r) (contents asked)
+      → ((s : State) → IsState located s (contents asked) → Settles m located s (events ++ Ask p (word_of r) ∷ []) more (contents store'))
+      → IsKept m located allowed (spent + 1) more room' store' need.Nothing faults
+  kept-commit allowed spent events more room room' store asked store' x faults p r k running asks left low same-drawn same-input st settles =
+      let s = state_after m store.input events in
+      let first = first_state store.input in
       let e : Event = Ask p (word_of r) in
-      let F : Request → Type 0 = λ y. IsState located (effect m s p y) (parts asked) in
-      let st' : IsState located (next m s e) (parts asked) =
-      any-time m located (effect m s p (request_at m s p)) (parts asked) false (subst F asks st) in
+      let F : Request → Type 0 = λ y. IsState located (effect m s p y) (contents asked) in
+      let st' : IsState located (next m s e) (contents asked) =
+      any-time m located (effect m s p (request_at m s p)) (contents asked) false (subst F asks st) in
       let done = settles (next m s e) st' in
       let es = done.goes_on.more in
       let whole : more ≡ events ++ e ∷ es = done.goes_on.journal ∙ append_assoc events (e ∷ []) es in
-      let last : state_after m kept.input (events ++ e ∷ es) ≡ after m (next m s e) es = after-append m first events (e ∷ es) in
-      let quiet = quiet-parts m located (after m (next m s e) es) (parts kept') done.goes_on.state done.settled in
-      let settled = settled-parts m located (after m (next m s e) es) (parts kept') done.goes_on.state quiet in
-      let legal = legal-ask m s p r (not-due m s (λ i. plain-at located s.processes kept.seats.items i k.state.seated)) running asks in
+      let last : state_after m store.input (events ++ e ∷ es) ≡ after m (next m s e) es = after-append m first events (e ∷ es) in
+      let quiet = quiet-contents m located (after m (next m s e) es) (contents store') done.goes_on.state done.settled in
+      let settled = settled-contents m located (after m (next m s e) es) (contents store') done.goes_on.state quiet in
+      let legal = legal-ask m s p r (not-due m s (λ i. plain-at located s.processes store.seats.items i k.state.seated)) running asks in
       record {
         runs =
             (let F : List ℕ → Type 0 = λ input. IsRun m input more in
@@ -179,9 +163,9 @@ module _ {P : Type 0} (m : Meaning) (located : P → ℕ → List ℤ → List G
             subst F (sym same-input)
             (rw whole
             (IsSettledFrom-append m first events (e ∷ es) k.settled
-            (λ turn. settled-parts m located s (parts kept) k.state k.quiet, quiet-settled m (next m s e) es done.goes_on.quiet settled))));
+            (λ asked. settled-contents m located s (contents store) k.state k.quiet, settling-settled m (next m s e) es done.goes_on.settles settled))));
         state =
-            (let F : List ℕ → Type 0 = λ input. IsState located (state_after m input more) (parts kept') in
+            (let F : List ℕ → Type 0 = λ input. IsState located (state_after m input more) (contents store') in
             subst F (sym same-input) (rw (whole, last) done.goes_on.state));
         quiet =
             (let F : List ℕ → Type 0 = λ input. list_any (is_acceptable m (state_after m input more)) (state_after m input more).pending ≡ false in
@@ -190,7 +174,7 @@ module _ {P : Type 0} (m : Meaning) (located : P → ℕ → List ℤ → List G
             (let t = turns-append events (e ∷ es) in
             let t' = turns-append (e ∷ []) es in
             let u = k.spent_turns in
-            let z = done.goes_on.quiet in
+            let z = settling-turns es done.goes_on.settles in
             rw whole (omega (arith, t, t', u, z)));
         within = omega (arith, left);
         low = (let l = k.low in omega (arith, l, low, same-drawn));
@@ -222,7 +206,7 @@ all-filtered F (call ∷ calls) h =
 
 -- what holds of the calls that each process serves holds of the kept ones
 pub all-served :
-    {P : Type 0} (F : ServedCall → Type 0) (located : P → ℕ → List ℤ → List Grant → Type 0) (s : State) (x : Parts P)
+    {P : Type 0} (F : ServedCall → Type 0) (located : P → ℕ → List ℤ → List Grant → Type 0) (s : State) (x : Contents P)
     → IsState located s x
     → ((p : ℕ) → All F (map served_call (process_at s.processes p).serving))
     → All F x.served

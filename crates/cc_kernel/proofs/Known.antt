@@ -11,8 +11,8 @@ use Rattle.cc_base.specs.Requests.{IsRequestOf, WellFormed}
 use Rattle.cc_base.specs.declared.names.Pid.{Pid}
 use Rattle.cc_base.specs.declared.names.Shape.{Shape}
 use Rattle.cc_base.specs.declared.request.Grant.{Grant}
-use Rattle.cc_kernel.specs.Held.{IsReadyWith}
-use Rattle.cc_kernel.specs.Kept.{IsReady}
+use Rattle.cc_kernel.specs.Contract.{IsReadyWith}
+use Rattle.cc_kernel.specs.Store.{IsReady}
 use Rattle.cc_kernel.specs.Seats.{served_call}
 use Rattle.cc_kernel.specs.declared.served.ServedCall.{ServedCall}
 use Rattle.cc_rules.proofs.Own.{own-sound}

@@ -6,9 +6,9 @@ use Rattle.std.proofs.lemmas.List.Elements.{All-append, All-cons, All-head, All-
 use Rattle.cc_base.specs.declared.names.FaultKind.{FaultKind}
 use Rattle.cc_base.specs.declared.names.Pid.{Pid}
 use Rattle.cc_base.specs.declared.request.Grant.{Grant}
-use Rattle.cc_kernel.specs.Faults.{fault_of, faults_from, seat_faults}
-use Rattle.cc_kernel.specs.Kept.{Seated}
-use Rattle.cc_kernel.specs.Seats.{seat_at}
+use Rattle.cc_kernel.specs.Seats.{seat_faults, seat_at}
+use Rattle.cc_rules.specs.Faulted.{fault_of, faults_from}
+use Rattle.cc_kernel.specs.Store.{Seated}
 use Rattle.cc_kernel.specs.declared.seat.Seat.{Seat}
 use Rattle.cc_rules.specs.Lists.{with_fault}
 use Rattle.cc_rules.specs.State.{Process}

@@ -7,64 +7,24 @@ use Rattle.cc_base.specs.declared.request.Grant.{Grant}
 use Rattle.cc_base.specs.declared.request.Request.{Request}
 use Rattle.cc_kernel.proofs.Outs.{out-at}
 use Rattle.cc_kernel.proofs.Seated.{Seated-at, out-running}
-use Rattle.cc_kernel.specs.Held.{StepsOn}
-use Rattle.cc_kernel.specs.Kept.{IsState, Parts, Seated}
-use Rattle.cc_kernel.specs.Seats.{is_out, is_out_in, seat_at}
+use Rattle.cc_kernel.specs.Contract.{StepsOn, is_out_in}
+use Rattle.cc_kernel.specs.Store.{IsState, Contents, Seated}
+use Rattle.cc_kernel.specs.Seats.{is_out, seat_at}
 use Rattle.cc_kernel.specs.declared.seat.Seat.{Seat}
 use Rattle.cc_kernel.specs.Settles.{Settles}
-use Rattle.cc_rules.proofs.GoOn.{after-append, printed-append, turns-append}
+use Rattle.cc_rules.proofs.GoOn.{after-append, printed-append}
+use Rattle.cc_rules.proofs.QuietEvents.{settling-prints, settling-stays}
 use Rattle.cc_rules.proofs.NextStays.{same-running}
 use Rattle.cc_rules.specs.Effects.{effect}
 use Rattle.cc_rules.specs.Events.{next, request_at, word_of}
-use Rattle.cc_rules.specs.Runs.{IsRun, IsRunFrom, after, bytes_of, event_bytes, is_turn, printed, printed_from, state_after, turns}
+use Rattle.cc_rules.specs.Runs.{IsRun, IsRunFrom, after, bytes_of, printed, printed_from, state_after}
 use Rattle.cc_rules.specs.State.{Process, State, first_state, is_running, process_at}
 use Rattle.cc_rules.specs.declared.event.Event.{Event}
 use Rattle.cc_rules.specs.declared.event.Event.TheVariants.{Ask, Accept, Instant, Expire, Withdraw, Time, End}
 
-no-turns : (e : Event) (es : List Event) → turns (e ∷ es) ≡ 0 → (is_turn e ≡ false) × (turns es ≡ 0)
-no-turns e es h = either (is_turn e) refl (sym (turns-append (e ∷ []) es) ∙ h)
-  where
-    either : (b : Bool) → is_turn e ≡ b → 0 + cond b 1 0 + turns es ≡ 0 → (is_turn e ≡ false) × (turns es ≡ 0)
-    either true same zero-turns = absurd (omega (arith, zero-turns))
-    either false same zero-turns = (same, omega (arith, zero-turns))
-
-both : (b : Bool) → b ≡ true → b ≡ false → ⊥
-both true h k = cc
-both false h k = cc
-
 run-behind : (m : Meaning) (s : State) (first more : List Event) → IsRunFrom m s (first ++ more) → IsRunFrom m (after m s first) more
 run-behind m s [] more h = h
 run-behind m s (e ∷ first) more h = run-behind m (next m s e) first more h.1
-
--- events that are no turns leave a process that is running as it is
-quiet-stays :
-    (m : Meaning) (s : State) (events : List Event) (p : Pid)
-    → IsRunFrom m s events
-    → turns events ≡ 0
-    → is_running (process_at s.processes p.0).standing ≡ true
-    → process_at (after m s events).processes p.0 ≡ process_at s.processes p.0
-quiet-stays m s [] p legal quiet runs = refl
-quiet-stays m s (e ∷ es) p legal quiet runs =
-    let none = no-turns e es quiet in
-    let same : process_at (next m s e).processes p.0 ≡ process_at s.processes p.0 =
-    same-running m s e p legal.0 (λ w is. both (is_turn e) (ap is_turn is) none.0) runs in
-    quiet-stays m (next m s e) es p legal.1 none.1 (rw same runs) ∙ same
-
--- and print nothing
-quiet-event : (m : Meaning) (s : State) (e : Event) → is_turn e ≡ false → event_bytes m s e ≡ []
-quiet-event m s (Ask p w) h = cc
-quiet-event m s (Accept p i c) h = refl
-quiet-event m s (Instant p i) h = refl
-quiet-event m s (Expire p i) h = refl
-quiet-event m s (Withdraw c) h = refl
-quiet-event m s (Time t) h = cc
-quiet-event m s End h = refl
-
-quiet-prints : (m : Meaning) (s : State) (events : List Event) → turns events ≡ 0 → printed_from m s events ≡ []
-quiet-prints m s [] quiet = refl
-quiet-prints m s (e ∷ es) quiet =
-    let none = no-turns e es quiet in
-    rw (quiet-event m s e none.0) (quiet-prints m (next m s e) es none.1)
 
 -- the other processes that are running stay
 pub others-stay :
@@ -82,7 +42,7 @@ others-stay m input before events p q r steps runs other running =
     let same : process_at (next m s e).processes q.0 ≡ process_at s.processes q.0 =
     same-running m s e q legal.0 (λ w is. other (sym (ap pid-of is))) running in
     rw (steps.journal, after-append m (first_state input) before (e ∷ es))
-    (quiet-stays m (next m s e) es q legal.1 steps.quiet (rw same running) ∙ same)
+    (settling-stays m (next m s e) es q steps.settles legal.1 (rw same running) ∙ same)
   where
     pid-of : Event → ℕ
     pid-of (Ask p w) = p.0
@@ -103,24 +63,24 @@ prints-more m input before events p r steps asks =
     let s = state_after m input before in
     let e : Event = Ask p (word_of r) in
     let es = steps.settling in
-    rw (steps.journal, printed-append m (first_state input) before (e ∷ es), quiet-prints m (next m s e) es steps.quiet, ← asks, append-nil)
+    rw (steps.journal, printed-append m (first_state input) before (e ∷ es), settling-prints m (next m s e) es steps.settles, ← asks, append-nil)
     refl
 
 -- the journal goes on with what is asked
 pub steps-on :
     {P : Type 0} (m : Meaning) (located : P → ℕ → List ℤ → List Grant → Type 0)
-    (s : State) (before more : List Event) (asked kept : Parts P) (p : Pid) (r : Request)
+    (s : State) (before more : List Event) (asked store : Contents P) (p : Pid) (r : Request)
     → r ≡ request_at m s p
     → IsState located (effect m s p r) asked
-    → ((s : State) → IsState located s asked → Settles m located s (before ++ Ask p (word_of r) ∷ []) more kept)
+    → ((s : State) → IsState located s asked → Settles m located s (before ++ Ask p (word_of r) ∷ []) more store)
     → StepsOn before more p r
-steps-on m located s before more asked kept p r asks st settles =
+steps-on m located s before more asked store p r asks st settles =
     let e : Event = Ask p (word_of r) in
     let done = settles (effect m s p r) st in
     record {
       settling = done.goes_on.more;
       journal = done.goes_on.journal ∙ append_assoc before (e ∷ []) done.goes_on.more;
-      quiet = done.goes_on.quiet;
+      settles = done.goes_on.settles;
     }
 
 -- each process that is out is running

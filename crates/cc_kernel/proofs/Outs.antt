@@ -7,9 +7,10 @@ use Rattle.std.specs.Option.{option_map_or}
 use Rattle.cc_base.specs.declared.names.Pid.{Pid}
 use Rattle.cc_base.specs.declared.request.Grant.{Grant}
 use Rattle.cc_base.specs.declared.request.Grant.TheVariants.{Gone}
-use Rattle.cc_kernel.specs.Seats.{answered_seats, gone_seats, is_out, is_out_in, is_out_place, seat_at, vacant, woken, woken_place, with_out}
-use Rattle.cc_kernel.specs.declared.seat.Place.{Place}
-use Rattle.cc_kernel.specs.declared.seat.Place.TheVariants.{Ready, Out, Waits, Left}
+use Rattle.cc_kernel.specs.Contract.{is_out_in}
+use Rattle.cc_kernel.specs.Seats.{answered_seats, gone_seats, is_out, whereabouts_out, seat_at, vacant, woken, whereabouts_woken, with_out}
+use Rattle.cc_kernel.specs.declared.seat.Whereabouts.{Whereabouts}
+use Rattle.cc_kernel.specs.declared.seat.Whereabouts.TheVariants.{Ready, Out, Waits, Left}
 use Rattle.cc_kernel.specs.declared.seat.Seat.{Seat}
 use Rattle.cc_kernel.specs.declared.served.ServedCall.{ServedCall}
 use Rattle.cc_rules.specs.Effects.{caller_of, waits_for}
@@ -67,14 +68,14 @@ module _ {P : Type 0} where
   length-gone seats (call ∷ calls) = length-gone (answered_seats seats call Gone) calls ∙ length-answered seats call Gone
 
   -- who is out does not change where others go on
-  out-woken_place : (x : Place P) (grant : Grant) → is_out_place (woken_place x grant) ≡ is_out_place x
+  out-woken_place : (x : Whereabouts P) (grant : Grant) → whereabouts_out (whereabouts_woken x grant) ≡ whereabouts_out x
   out-woken_place (Ready process old) grant = refl
   out-woken_place Out grant = refl
   out-woken_place (Waits process) grant = refl
   out-woken_place Left grant = refl
 
   pub outs-woken : (seats : List (Seat P)) (i : ℕ) (grant : Grant) → map is_out (set seats i (woken (seat_at seats i) grant)) ≡ map is_out seats
-  outs-woken seats i grant = map-set_same is_out seats i (woken (seat_at seats i) grant) vacant (out-woken_place (seat_at seats i).place grant)
+  outs-woken seats i grant = map-set_same is_out seats i (woken (seat_at seats i) grant) vacant (out-woken_place (seat_at seats i).whereabouts grant)
 
   outs-answered_if : (seats : List (Seat P)) (i : ℕ) (grant : Grant) (b : Bool) → map is_out (if b then set seats i (woken (seat_at seats i) grant) else seats) ≡ map is_out seats
   outs-answered_if seats i grant true = outs-woken seats i grant

@@ -10,8 +10,8 @@ use Rattle.cc_base.specs.declared.alternatives.Alt.TheVariants as alt
 use Rattle.cc_base.specs.declared.request.Grant.{Grant}
 use Rattle.cc_kernel.proofs.Seated.{plain-at, same-standing}
 use Rattle.cc_kernel.specs.Choice.{is_takable, some_takable, takes}
-use Rattle.cc_base.specs.Served.{IsAccept}
-use Rattle.cc_kernel.specs.Kept.{AllAwaited, IsAwaited, IsPlain, IsState, OnlyAccepts, Parts}
+use Rattle.cc_base.specs.Supported.{IsAccept}
+use Rattle.cc_kernel.specs.Store.{AllAwaited, IsAwaited, IsPlain, IsState, OnlyAccepts, Contents}
 use Rattle.cc_kernel.specs.Seats.{seat_at}
 use Rattle.cc_base.specs.Alternatives.{numbered}
 use Rattle.cc_rules.specs.Choice.{accepts, alternative_deadline, call_deadline, call_numbered, expires, expires_at, expiring_numbers, has_eligible, has_immediate, is_acceptable, is_chosen, is_first_due, is_immediate, is_terminate, may_withdraw, rank, some_process, takes_at_once}
@@ -256,24 +256,24 @@ any-agrees p q [] h = refl
 any-agrees p q (x ∷ xs) h = rw (h x, any-agrees p q xs h) refl
 
 -- as the seats tell it
-pub quiet-parts :
-    {P : Type 0} (m : Meaning) (located : P → ℕ → List ℤ → List Grant → Type 0) (s : State) (x : Parts P)
+pub quiet-contents :
+    {P : Type 0} (m : Meaning) (located : P → ℕ → List ℤ → List Grant → Type 0) (s : State) (x : Contents P)
     → IsState located s x
     → some_takable m x.seats x.pending ≡ false
     → list_any (is_acceptable m s) s.pending ≡ false
-quiet-parts m located s x k none =
+quiet-contents m located s x k none =
     any-agrees (λ call. is_takable m (process_at s.processes call.target.0).standing s.pending call) (λ call. is_takable m (seat_at x.seats call.target.0).standing s.pending call) s.pending
     (λ call. ap (λ st. is_takable m st s.pending call) (sym (same-standing located s.processes x.seats call.target.0 k.seated)))
     ∙ ap (λ calls. list_any (λ call. is_takable m (seat_at x.seats call.target.0).standing calls call) calls) (sym k.pending)
     ∙ none
 
 -- what is kept is settled where no call can be taken
-pub settled-parts :
-    {P : Type 0} (m : Meaning) (located : P → ℕ → List ℤ → List Grant → Type 0) (s : State) (x : Parts P)
+pub settled-contents :
+    {P : Type 0} (m : Meaning) (located : P → ℕ → List ℤ → List Grant → Type 0) (s : State) (x : Contents P)
     → IsState located s x
     → list_any (is_acceptable m s) s.pending ≡ false
     → IsSettled m s
-settled-parts m located s x k none =
+settled-contents m located s x k none =
     settled-state m s (λ p. plain-at located s.processes x.seats p k.seated) k.awaited none
 
 -- nothing else is unsettled, and no deadline stands

@@ -12,10 +12,11 @@ use Rattle.cc_base.specs.declared.request.Request.TheVariants.{Create}
 use Rattle.cc_kernel.proofs.Outs.{out-at}
 use Rattle.cc_kernel.proofs.Seated.{Seated-at, out-running}
 use Rattle.cc_kernel.proofs.Serving.{Rising-length}
-use Rattle.cc_kernel.specs.Held.{AsksNow, IsKept, IsReadyFor}
-use Rattle.cc_kernel.specs.Kept.{IsState, Parts, Seated, parts}
-use Rattle.cc_kernel.specs.Seats.{is_out, is_out_in, seat_at}
-use Rattle.cc_kernel.specs.declared.kept.Kept.{Kept}
+use Rattle.cc_kernel.specs.Contract.{AsksNow, is_out_in}
+use Rattle.cc_kernel.specs.Invariant.{IsKept, IsReadyFor}
+use Rattle.cc_kernel.specs.Store.{IsState, Contents, Seated, contents}
+use Rattle.cc_kernel.specs.Seats.{is_out, seat_at}
+use Rattle.cc_kernel.specs.declared.store.Store.{Store}
 use Rattle.cc_kernel.specs.declared.need.Need.{Need}
 use Rattle.cc_kernel.specs.declared.seat.Seat.{Seat}
 use Rattle.cc_rules.specs.Choice.{is_acceptable}
@@ -31,7 +32,7 @@ where-some F G (Some x) f h = f x h
 
 module _ {P : Type 0} (m : Meaning) (located : P → ℕ → List ℤ → List Grant → Type 0) where
   -- there are no more pending calls than numbers were drawn
-  pub few-pending : (s : State) (x : Parts P) → IsState located s x → length x.pending ≤ x.drawn
+  pub few-pending : (s : State) (x : Contents P) → IsState located s x → length x.pending ≤ x.drawn
   few-pending s x k = let h = Rising-length 0 s.pending s.drawn k.rising in rw (k.pending, k.drawn) (omega (arith, h))
 
   -- a process that is out is running
@@ -59,20 +60,20 @@ module _ {P : Type 0} (m : Meaning) (located : P → ℕ → List ℤ → List G
 
   -- room is made
   pub kept-prepared :
-      (allowed spent : ℕ) (events : List Event) (room room' : ℕ) (kept kept' : Kept P) (x x' : Need P) (faults : FaultList)
-      → IsKept m located allowed spent events room kept x faults
-      → parts kept' ≡ parts kept
-      → IsReadyFor m located kept' room' x'
-      → IsKept m located allowed spent events room' kept' x' faults
-  kept-prepared allowed spent events room room' kept kept' x x' faults k same ready =
-      let same-input : kept'.input ≡ kept.input = ap (λ (y : Parts P). y.input) same in
-      let same-drawn : kept'.drawn ≡ kept.drawn = ap (λ (y : Parts P). y.drawn) same in
+      (allowed spent : ℕ) (events : List Event) (room room' : ℕ) (store store' : Store P) (x x' : Need P) (faults : FaultList)
+      → IsKept m located allowed spent events room store x faults
+      → contents store' ≡ contents store
+      → IsReadyFor m located store' room' x'
+      → IsKept m located allowed spent events room' store' x' faults
+  kept-prepared allowed spent events room room' store store' x x' faults k same ready =
+      let same-input : store'.input ≡ store.input = ap (λ (y : Contents P). y.input) same in
+      let same-drawn : store'.drawn ≡ store.drawn = ap (λ (y : Contents P). y.drawn) same in
       record {
         runs = (let F : List ℕ → Type 0 = λ input. IsRun m input events in subst F (sym same-input) k.runs);
         settled = (let F : List ℕ → Type 0 = λ input. IsSettledRun m input events in subst F (sym same-input) k.settled);
         state =
-            (let F : List ℕ → Type 0 = λ input. IsState located (state_after m input events) (parts kept') in
-            let G : Parts P → Type 0 = λ y. IsState located (state_after m kept.input events) y in
+            (let F : List ℕ → Type 0 = λ input. IsState located (state_after m input events) (contents store') in
+            let G : Contents P → Type 0 = λ y. IsState located (state_after m store.input events) y in
             subst F (sym same-input) (subst G (sym same) k.state));
         quiet =
             (let F : List ℕ → Type 0 = λ input. list_any (is_acceptable m (state_after m input events)) (state_after m input events).pending ≡ false in

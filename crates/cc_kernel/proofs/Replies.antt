@@ -13,7 +13,7 @@ use Rattle.cc_kernel.proofs.Outs.{length-answered}
 use Rattle.cc_kernel.proofs.Seated.{Seated-answered, Seated-length, Seated-ready}
 use Rattle.cc_kernel.proofs.Serving.{split-others, split-own}
 use Rattle.cc_kernel.proofs.Simulates.{same-or-not, serving-answered, serving-other, serving-own}
-use Rattle.cc_kernel.specs.Kept.{IsLocated, IsState, Parts, went_on}
+use Rattle.cc_kernel.specs.Store.{IsLocated, IsState, Contents, went_on}
 use Rattle.cc_kernel.specs.Seats.{SplitsAt, answered_seats, is_served_by, served_call, with_ready}
 use Rattle.cc_kernel.specs.declared.served.ServedCall.{ServedCall}
 use Rattle.cc_base.specs.Grants.{value_cells}
@@ -75,7 +75,7 @@ map-none (x ∷ xs) h = cc
 module _ {P : Type 0} (m : Meaning) (located : P → ℕ → List ℤ → List Grant → Type 0) where
   -- what a process serves after it answered
   served-after :
-      (s : State) (x : Parts P) (p i : ℕ) (front : List TransactionCall) (left : List ServedCall)
+      (s : State) (x : Contents P) (p i : ℕ) (front : List TransactionCall) (left : List ServedCall)
       → IsState located s x
       → p < length x.seats
       → filter (is_served_by p) left ≡ map served_call front
@@ -104,7 +104,7 @@ module _ {P : Type 0} (m : Meaning) (located : P → ℕ → List ℤ → List G
       }
 
   reply-none :
-      (s : State) (x : Parts P) (p : ℕ) (process : P) (asked : List ℤ)
+      (s : State) (x : Contents P) (p : ℕ) (process : P) (asked : List ℤ)
       → IsState located s x
       → p < length x.seats
       → filter (is_served_by p) x.served ≡ []
@@ -124,7 +124,7 @@ module _ {P : Type 0} (m : Meaning) (located : P → ℕ → List ℤ → List G
       }
 
   pub state-reply-none :
-      (s : State) (x : Parts P) (p : ℕ) (process : P) (asked : List ℤ)
+      (s : State) (x : Contents P) (p : ℕ) (process : P) (asked : List ℤ)
       → IsState located s x
       → p < length x.seats
       → filter (is_served_by p) x.served ≡ []
@@ -135,7 +135,7 @@ module _ {P : Type 0} (m : Meaning) (located : P → ℕ → List ℤ → List G
       subst F (sym (map-none (process_at s.processes p).serving (sym (k.served p) ∙ none))) (reply-none s x p process asked k lt none is)
 
   reply-some :
-      (s : State) (x : Parts P) (p : ℕ) (process : P) (asked : List ℤ) (call : TransactionCall) (left : List ServedCall) (front : List TransactionCall)
+      (s : State) (x : Contents P) (p : ℕ) (process : P) (asked : List ℤ) (call : TransactionCall) (left : List ServedCall) (front : List TransactionCall)
       → IsState located s x
       → p < length x.seats
       → SplitsAt p (served_call call) x.served left
@@ -166,7 +166,7 @@ module _ {P : Type 0} (m : Meaning) (located : P → ℕ → List ℤ → List G
       })
 
   pub state-reply :
-      (s : State) (x : Parts P) (p : ℕ) (process : P) (asked : List ℤ) (c : ServedCall) (left : List ServedCall)
+      (s : State) (x : Contents P) (p : ℕ) (process : P) (asked : List ℤ) (c : ServedCall) (left : List ServedCall)
       → IsState located s x
       → p < length x.seats
       → SplitsAt p c x.served left

@@ -13,16 +13,18 @@ use Rattle.cc_base.specs.declared.request.Request.TheVariants.{Call, Create}
 use Rattle.cc_kernel.proofs.Outs.{outs-gone}
 use Rattle.cc_kernel.proofs.Seated.{Seated-length, same-standing}
 use Rattle.cc_kernel.proofs.Simulates.{map-append, state-call, state-go, state-leave, state-make, state-wait}
-use Rattle.cc_base.specs.Served.{IsOneAccept}
-use Rattle.cc_kernel.specs.Held.{Answering, IsEnoughFor, IsReadyFor, Making, prepared_for}
-use Rattle.cc_kernel.specs.Kept.{IsLocated, IsState, OnlyAccepts, Parts, called_parts, left_parts, made_parts, waited, went_on}
-use Rattle.cc_kernel.specs.Seats.{SameOuts, is_out, is_out_in, is_served_by, seat_at, served_call, with_left, with_ready, with_waiting}
-use Rattle.cc_kernel.specs.declared.kept.Kept.{Kept}
+use Rattle.cc_base.specs.Supported.{IsOneAccept}
+use Rattle.cc_kernel.specs.Contract.{Answering, IsEnoughFor, Making, SameOuts, is_out_in}
+use Rattle.cc_kernel.specs.Invariant.{IsReadyFor, prepared_for}
+use Rattle.cc_kernel.specs.Store.{IsLocated, IsState, OnlyAccepts, Contents, called_contents, left_contents, made_contents, waited, went_on}
+use Rattle.cc_kernel.specs.Seats.{is_out, is_served_by, seat_at, served_call, with_left, with_ready, with_waiting}
+use Rattle.cc_kernel.specs.declared.store.Store.{Store}
 use Rattle.cc_kernel.specs.declared.need.Need.{Need}
 use Rattle.cc_kernel.specs.declared.need.Need.TheVariants as need
 use Rattle.cc_kernel.specs.declared.seat.Seat.{Seat}
 use Rattle.cc_base.specs.Grants.{value_cells}
-use Rattle.cc_rules.specs.Effects.{called, effect, ended, grant_to, is_for, most_processes, with_standing}
+use Rattle.cc_base.specs.Limits.{most_processes}
+use Rattle.cc_rules.specs.Effects.{called, effect, ended, grant_to, is_for, with_standing}
 use Rattle.cc_rules.specs.State.{State, is_over, made, process_at}
 use Rattle.std.specs.List.{filter}
 use Rattle.cc_rules.specs.declared.process.ProcessStanding.{ProcessStanding}
@@ -32,11 +34,11 @@ use Rattle.cc_rules.specs.declared.process.Waiting.TheVariants.{Caller}
 module _ {P : Type 0} (m : Meaning) (located : P → ℕ → List ℤ → List Grant → Type 0) where
   -- it calls
   pub state-asks-call :
-      (s : State) (x : Parts P) (p : Pid) (process : P) (target : Pid) (trans : ℕ) (args : List ℤ)
+      (s : State) (x : Contents P) (p : Pid) (process : P) (target : Pid) (trans : ℕ) (args : List ℤ)
       → IsState located s x
       → IsLocated located s p.0 process
       → IsState located (effect m s p (Call target trans args))
-      (if is_over (seat_at x.seats target.0).standing then went_on x p.0 process Gone else called_parts x p process target trans args)
+      (if is_over (seat_at x.seats target.0).standing then went_on x p.0 process Gone else called_contents x p process target trans args)
   state-asks-call s x p process target trans args k is =
       rw (same-standing located s.processes x.seats target.0 k.seated) (either (is_over (process_at s.processes target.0).standing))
     where
@@ -46,13 +48,13 @@ module _ {P : Type 0} (m : Meaning) (located : P → ℕ → List ℤ → List G
           (if not b
           then called s (with_standing s.processes p.0 (AtCall (record { 0 = s.drawn }))) target trans args (Caller p)
           else record s { processes = grant_to s.processes p.0 Gone })
-          (if b then went_on x p.0 process Gone else called_parts x p process target trans args)
+          (if b then went_on x p.0 process Gone else called_contents x p process target trans args)
       either true = state-go located s x p.0 process Gone k is
       either false = state-call located s x p process target trans args k is
 
   -- it waits for one of these alternatives
   pub state-asks-select :
-      (s : State) (x : Parts P) (p : ℕ) (process : P) (alts : List (ℕ × Alt))
+      (s : State) (x : Contents P) (p : ℕ) (process : P) (alts : List (ℕ × Alt))
       → IsState located s x
       → OnlyAccepts alts
       → IsLocated located s p process
@@ -63,20 +65,20 @@ module _ {P : Type 0} (m : Meaning) (located : P → ℕ → List ℤ → List G
 
   -- it makes another, where there are not too many
   pub state-asks-create :
-      (s : State) (x : Parts P) (p : Pid) (process new : P) (kind : ℕ) (args : List ℤ)
+      (s : State) (x : Contents P) (p : Pid) (process new : P) (kind : ℕ) (args : List ℤ)
       → IsState located s x
       → p.0 < length x.seats
       → IsLocated located s p.0 process
       → located new kind args []
       → IsState located (effect m s p (Create kind args))
-      (if nat_lt (length x.seats) most_processes then made_parts x p.0 process new else left_parts x p.0 (Faulted TooMany))
+      (if nat_lt (length x.seats) most_processes then made_contents x p.0 process new else left_contents x p.0 (Faulted TooMany))
   state-asks-create s x p process new kind args k lt is starts =
       let F : ℕ → Type 0 = λ n.
       IsState located
       (if nat_lt n most_processes
       then record s { processes = grant_to s.processes p.0 (Made (record { 0 = length s.processes })) ++ made kind args ∷ [] }
       else ended s p.0 (Faulted TooMany))
-      (if nat_lt (length x.seats) most_processes then made_parts x p.0 process new else left_parts x p.0 (Faulted TooMany)) in
+      (if nat_lt (length x.seats) most_processes then made_contents x p.0 process new else left_contents x p.0 (Faulted TooMany)) in
       subst F (sym (Seated-length located s.processes x.seats k.seated)) (either (nat_lt (length x.seats) most_processes) refl)
     where
       below : (n k : ℕ) → nat_lt n k ≡ true → n < k
@@ -89,19 +91,19 @@ module _ {P : Type 0} (m : Meaning) (located : P → ℕ → List ℤ → List G
           (if b
           then record s { processes = grant_to s.processes p.0 (Made (record { 0 = length s.processes })) ++ made kind args ∷ [] }
           else ended s p.0 (Faulted TooMany))
-          (if b then made_parts x p.0 process new else left_parts x p.0 (Faulted TooMany))
+          (if b then made_contents x p.0 process new else left_contents x p.0 (Faulted TooMany))
       either true e = state-make located s x p.0 process new kind args k (below (length x.seats) most_processes e) is starts
       either false e = state-leave located s x p.0 (Faulted TooMany) k lt (refl, tt)
 
   -- what was started for a Create
   pub start-made :
-      (kept : Kept P) (events : ℕ) (x : Need P) (kind kind' : ℕ) (args args' : List ℤ) (new : P)
+      (store : Store P) (events : ℕ) (x : Need P) (kind kind' : ℕ) (args args' : List ℤ) (new : P)
       → x ≡ need.Making kind args new
       → IsEnoughFor (prepared_for x) (Create kind' args')
-      → IsReadyFor m located kept events x
+      → IsReadyFor m located store events x
       → located new kind' args' []
-  start-made kept events x kind kind' args args' new e enough ready =
-      let F : Need P → Type 0 = λ y. IsReadyFor m located kept events y in
+  start-made store events x kind kind' args args' new e enough ready =
+      let F : Need P → Type 0 = λ y. IsReadyFor m located store events y in
       let h = subst F e ready in
       let same : Making kind args ≡ Making kind' args' = sym (ap prepared_for e) ∙ enough in
       let same-kind : kind ≡ kind' = cc in
@@ -110,13 +112,13 @@ module _ {P : Type 0} (m : Meaning) (located : P → ℕ → List ℤ → List G
 
   -- what was made for a Reply
   pub answer-made :
-      (kept : Kept P) (events : ℕ) (x : Need P) (value asked : List ℤ) (zeros zeros' : ℕ)
+      (store : Store P) (events : ℕ) (x : Need P) (value asked : List ℤ) (zeros zeros' : ℕ)
       → x ≡ need.Answering value zeros
       → prepared_for x ≡ Answering (asked ++ replicate zeros' (pos 0)) zeros'
-      → IsReadyFor m located kept events x
-      → (value ≡ asked ++ replicate zeros' (pos 0)) × All (λ call. value_cells m call.trans ≤ zeros') kept.served.items
-  answer-made kept events x value asked zeros zeros' e enough ready =
-      let F : Need P → Type 0 = λ y. IsReadyFor m located kept events y in
+      → IsReadyFor m located store events x
+      → (value ≡ asked ++ replicate zeros' (pos 0)) × All (λ call. value_cells m call.trans ≤ zeros') store.served.items
+  answer-made store events x value asked zeros zeros' e enough ready =
+      let F : Need P → Type 0 = λ y. IsReadyFor m located store events y in
       let h = subst F e ready in
       let same : Answering value zeros ≡ Answering (asked ++ replicate zeros' (pos 0)) zeros' = sym (ap prepared_for e) ∙ enough in
       let same-value : value ≡ asked ++ replicate zeros' (pos 0) = cc in
@@ -135,23 +137,23 @@ same-outs outs outs' e p = ap (λ xs. is_out_in xs p) e
 module _ {P : Type 0} where
   -- who is out, where a process is over
   pub outs-left :
-      (x : Parts P) (p : ℕ) (standing : ProcessStanding)
-      → map is_out (left_parts x p standing).seats ≡ set (map is_out x.seats) p false
+      (x : Contents P) (p : ℕ) (standing : ProcessStanding)
+      → map is_out (left_contents x p standing).seats ≡ set (map is_out x.seats) p false
   outs-left x p standing =
       outs-gone (_) (filter (is_served_by p) x.served)
       ∙ outs-gone (set x.seats p (with_left standing)) (map served_call (filter (is_for p) x.pending))
       ∙ map-set is_out x.seats p (with_left standing)
 
   pub outs-call :
-      (x : Parts P) (p : Pid) (process : P) (target : Pid) (trans : ℕ) (args : List ℤ) (b : Bool)
-      → map is_out (if b then went_on x p.0 process Gone else called_parts x p process target trans args).seats ≡ set (map is_out x.seats) p.0 false
+      (x : Contents P) (p : Pid) (process : P) (target : Pid) (trans : ℕ) (args : List ℤ) (b : Bool)
+      → map is_out (if b then went_on x p.0 process Gone else called_contents x p process target trans args).seats ≡ set (map is_out x.seats) p.0 false
   outs-call x p process target trans args true = map-set is_out x.seats p.0 (with_ready process Gone)
   outs-call x p process target trans args false = map-set is_out x.seats p.0 (with_waiting process (AtCall (record { 0 = x.drawn })))
 
   -- a new process is not out
   pub outs-create :
-      (x : Parts P) (p : ℕ) (process new : P) (standing : ProcessStanding) (b : Bool)
-      → SameOuts (map is_out (if b then made_parts x p process new else left_parts x p standing).seats) (set (map is_out x.seats) p false)
+      (x : Contents P) (p : ℕ) (process new : P) (standing : ProcessStanding) (b : Bool)
+      → SameOuts (map is_out (if b then made_contents x p process new else left_contents x p standing).seats) (set (map is_out x.seats) p false)
   outs-create x p process new standing true i =
       let seat : Seat P = with_ready process (Made (record { 0 = length x.seats })) in
       ap (λ xs. is_out_in xs i) (map-append is_out (set x.seats p seat) (with_ready new Go ∷ []))

@@ -5,10 +5,11 @@ use Rattle.std.specs.Option.{option_map_or}
 use Rattle.cc_base.specs.declared.names.Pid.{Pid}
 use Rattle.cc_base.specs.declared.request.Grant.{Grant}
 use Rattle.cc_base.specs.declared.request.Grant.TheVariants.{Gone}
-use Rattle.cc_kernel.specs.Kept.{IsReady, IsPlain, PlaceFits, SeatFits, Seated}
-use Rattle.cc_kernel.specs.Seats.{answered_seats, gone_seats, is_out, is_out_in, is_out_place, is_ready, is_ready_place, seat_at, served_call, with_left, with_out, with_ready, with_waiting, woken, woken_place}
-use Rattle.cc_kernel.specs.declared.seat.Place.{Place}
-use Rattle.cc_kernel.specs.declared.seat.Place.TheVariants.{Ready, Out, Waits, Left}
+use Rattle.cc_kernel.specs.Store.{IsReady, IsPlain, WhereaboutsFit, SeatFits, Seated}
+use Rattle.cc_kernel.specs.Contract.{is_out_in}
+use Rattle.cc_kernel.specs.Seats.{answered_seats, gone_seats, is_out, whereabouts_out, is_ready, whereabouts_ready, seat_at, served_call, with_left, with_out, with_ready, with_waiting, woken, whereabouts_woken}
+use Rattle.cc_kernel.specs.declared.seat.Whereabouts.{Whereabouts}
+use Rattle.cc_kernel.specs.declared.seat.Whereabouts.TheVariants.{Ready, Out, Waits, Left}
 use Rattle.cc_kernel.specs.declared.seat.Seat.{Seat}
 use Rattle.cc_rules.specs.Effects.{answered, caller_of, each_gets_gone, grant_to, granted, waits_for, with_standing}
 use Rattle.cc_rules.specs.State.{Process, is_over, is_running, process_at}
@@ -111,7 +112,7 @@ module _ {P : Type 0} (located : P → ℕ → List ℤ → List Grant → Type 
       (set seats i (with_ready process grant))
   Seated-ready qs seats i process grant serving h is =
       Seated-set qs seats i (record (granted (process_at qs i) grant) { serving = serving }) (with_ready process grant) h
-      (record { standing = refl; place = (refl, ((process_at qs i).grants, refl, is)); plain = tt })
+      (record { standing = refl; whereabouts = (refl, ((process_at qs i).grants, refl, is)); plain = tt })
 
   -- a process that waits
   pub Seated-waiting :
@@ -122,7 +123,7 @@ module _ {P : Type 0} (located : P → ℕ → List ℤ → List Grant → Type 
       → Seated located (with_standing qs i standing) (set seats i (with_waiting process standing))
   Seated-waiting qs seats i process standing h w is =
       Seated-set qs seats i (record (process_at qs i) { standing = standing }) (with_waiting process standing) h
-      (record { standing = refl; place = (w.0, w.1, is); plain = w.2 })
+      (record { standing = refl; whereabouts = (w.0, w.1, is); plain = w.2 })
 
   -- a process that is over
   pub Seated-left :
@@ -132,7 +133,7 @@ module _ {P : Type 0} (located : P → ℕ → List ℤ → List Grant → Type 
       → Seated located (set qs i (record (process_at qs i) { standing = standing; serving = [] })) (set seats i (with_left standing))
   Seated-left qs seats i standing h w =
       Seated-set qs seats i (record (process_at qs i) { standing = standing; serving = [] }) (with_left standing) h
-      (record { standing = refl; place = w.0; plain = w.1 })
+      (record { standing = refl; whereabouts = w.0; plain = w.1 })
 
   -- a process that goes out
   pub Seated-out :
@@ -144,9 +145,9 @@ module _ {P : Type 0} (located : P → ℕ → List ℤ → List Grant → Type 
   Seated-out qs seats i lt r h =
       let fits = Seated-at qs seats i lt h in
       Seated-set qs seats i (process_at qs i) (with_out (seat_at seats i)) h
-      (record { standing = fits.standing; place = r; plain = fits.plain })
+      (record { standing = fits.standing; whereabouts = r; plain = fits.plain })
 
-  out-running-place : (q : Process) (x : Place P) → PlaceFits located q x → is_out_place x ≡ true → is_running q.standing ≡ true
+  out-running-place : (q : Process) (x : Whereabouts P) → WhereaboutsFit located q x → whereabouts_out x ≡ true → is_running q.standing ≡ true
   out-running-place q (Ready process grant) h e = h.0
   out-running-place q Out h e = h
   out-running-place q (Waits process) h e = cc
@@ -154,33 +155,33 @@ module _ {P : Type 0} (located : P → ℕ → List ℤ → List Grant → Type 
 
   -- a process that is out is running
   pub out-running : (q : Process) (seat : Seat P) → SeatFits located q seat → is_out seat ≡ true → is_running q.standing ≡ true
-  out-running q seat h e = out-running-place q seat.place h.place e
+  out-running q seat h e = out-running-place q seat.whereabouts h.whereabouts e
 
   running-out-place :
-      (q : Process) (x : Place P)
-      → PlaceFits located q x
+      (q : Process) (x : Whereabouts P)
+      → WhereaboutsFit located q x
       → is_running q.standing ≡ true
-      → is_ready_place x ≡ false
-      → is_out_place x ≡ true
+      → whereabouts_ready x ≡ false
+      → whereabouts_out x ≡ true
   running-out-place q (Ready process grant) h r e = cc
   running-out-place q Out h r e = refl
   running-out-place q (Waits process) h r e = absurd (both (is_running q.standing) r h.1)
   running-out-place q Left h r e = absurd (running-over q.standing r h)
 
   ready-place :
-      (q : Process) (x : Place P) (process : P) (grant : Grant)
-      → PlaceFits located q x
+      (q : Process) (x : Whereabouts P) (process : P) (grant : Grant)
+      → WhereaboutsFit located q x
       → x ≡ Ready process grant
-      → PlaceFits located q (Ready process grant)
+      → WhereaboutsFit located q (Ready process grant)
   ready-place q x process grant h e = rw e at h
 
   -- a process that is ready is where the program left it before its last grant
   pub ready-at :
       (q : Process) (seat : Seat P) (process : P) (grant : Grant)
       → SeatFits located q seat
-      → seat.place ≡ Ready process grant
+      → seat.whereabouts ≡ Ready process grant
       → IsReady located q process grant
-  ready-at q seat process grant h e = ready-place q seat.place process grant h.place e
+  ready-at q seat process grant h e = ready-place q seat.whereabouts process grant h.whereabouts e
 
   -- where none is ready, each process that is running is out
   pub all-out :
@@ -191,17 +192,17 @@ module _ {P : Type 0} (located : P → ℕ → List ℤ → List Grant → Type 
       → is_running (process_at qs i).standing ≡ true
       → is_out_in (map is_out seats) i ≡ true
   all-out [] [] h none i r = cc
-  all-out (q ∷ qs) (seat ∷ seats) h none zero r = running-out-place q seat.place h.0.place r (none zero)
+  all-out (q ∷ qs) (seat ∷ seats) h none zero r = running-out-place q seat.whereabouts h.0.whereabouts r (none zero)
   all-out (q ∷ qs) (seat ∷ seats) h none (suc i) r = all-out qs seats h.1 (λ k. none (suc k)) i r
   all-out [] (seat ∷ seats) h none i r = absurd h
   all-out (q ∷ qs) [] h none i r = absurd h
 
   woken-fits-place :
-      (q : Process) (x : Place P) (grant : Grant)
+      (q : Process) (x : Whereabouts P) (grant : Grant)
       → is_running q.standing ≡ false
       → is_over q.standing ≡ false
-      → PlaceFits located q x
-      → PlaceFits located (granted q grant) (woken_place x grant)
+      → WhereaboutsFit located q x
+      → WhereaboutsFit located (granted q grant) (whereabouts_woken x grant)
   woken-fits-place q (Ready process old) grant r o h = absurd (both (is_running q.standing) h.0 r)
   woken-fits-place q Out grant r o h = refl
   woken-fits-place q (Waits process) grant r o h = (refl, (q.grants, refl, h.2))
@@ -215,12 +216,12 @@ module _ {P : Type 0} (located : P → ℕ → List ℤ → List Grant → Type 
       → SeatFits located q seat
       → SeatFits located (record (granted q grant) { serving = serving }) (woken seat grant)
   woken-fits q seat grant serving r o h =
-      record { standing = refl; place = served-place (woken_place seat.place grant) (woken-fits-place q seat.place grant r o h.place); plain = tt }
+      record { standing = refl; whereabouts = served-place (whereabouts_woken seat.whereabouts grant) (woken-fits-place q seat.whereabouts grant r o h.whereabouts); plain = tt }
     where
       served-place :
-          (x : Place P)
-          → PlaceFits located (granted q grant) x
-          → PlaceFits located (record (granted q grant) { serving = serving }) x
+          (x : Whereabouts P)
+          → WhereaboutsFit located (granted q grant) x
+          → WhereaboutsFit located (record (granted q grant) { serving = serving }) x
       served-place (Ready process old) k = k
       served-place Out k = k
       served-place (Waits process) k = k

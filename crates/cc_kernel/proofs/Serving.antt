@@ -4,7 +4,7 @@ use Rattle.std.specs.Prelude.{remove}
 use Rattle.std.specs.List.{filter}
 use Rattle.std.proofs.lemmas.Bool.{eqb-true}
 use Rattle.std.proofs.lemmas.List.Elements.{filter-append}
-use Rattle.cc_kernel.specs.Kept.{AllAwaited, IsAwaited, Rising}
+use Rattle.cc_kernel.specs.Store.{AllAwaited, IsAwaited, Rising}
 use Rattle.cc_kernel.specs.Seats.{SplitsAt, is_served_by, no_call, no_served}
 use Rattle.cc_kernel.specs.declared.served.ServedCall.{ServedCall}
 use Rattle.cc_rules.specs.Choice.{call_numbered}

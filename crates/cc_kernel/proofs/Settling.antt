@@ -3,7 +3,7 @@ use Rattle.std.proofs.Common.{rules, ◌≡◌, ◌≢◌, inl, inr, ℕ, zero, 
 use Rattle.std.specs.List.{filter}
 use Rattle.std.proofs.lemmas.Bool.{eqb-true}
 use Rattle.std.proofs.lemmas.List.{length-set}
-use Rattle.std.proofs.lemmas.List.Elements.{filter-append}
+use Rattle.std.proofs.lemmas.List.Elements.{All-push, filter-append}
 use Rattle.cc_base.specs.Meaning.{Meaning}
 use Rattle.cc_base.specs.declared.request.Grant.{Grant}
 use Rattle.cc_base.specs.declared.request.Grant.TheVariants.{Took}
@@ -12,15 +12,15 @@ use Rattle.cc_kernel.proofs.Seated.{Seated-at, Seated-length, Seated-set, plain-
 use Rattle.cc_kernel.proofs.Serving.{AllAwaited-filter, Rising-filter, found-by-number, without-is-remove}
 use Rattle.cc_kernel.proofs.Simulates.{map-append, same-or-not, serving-other, serving-own}
 use Rattle.cc_kernel.specs.Choice.{takes}
-use Rattle.cc_kernel.specs.Kept.{IsState, Parts, accepted_parts}
+use Rattle.cc_kernel.specs.Store.{IsState, Contents, accepted_contents}
 use Rattle.cc_kernel.specs.Seats.{is_served_by, no_call, seat_at, served_call, woken}
 use Rattle.cc_kernel.specs.Settles.{GoesOn}
 use Rattle.cc_kernel.specs.declared.seat.Seat.{Seat}
 use Rattle.cc_kernel.specs.declared.served.ServedCall.{ServedCall}
-use Rattle.cc_rules.proofs.GoOn.{IsRunFrom-append, after-append, turns-append}
+use Rattle.cc_rules.proofs.GoOn.{IsRunFrom-append, after-append}
 use Rattle.cc_rules.specs.Effects.{granted}
 use Rattle.cc_rules.specs.Events.{accepted}
-use Rattle.cc_rules.specs.Runs.{after}
+use Rattle.cc_rules.specs.Runs.{after, is_settling}
 use Rattle.cc_rules.specs.State.{Process, State, is_over, is_running, process_at}
 use Rattle.cc_rules.specs.declared.event.Event.{Event}
 use Rattle.cc_rules.specs.declared.event.Event.TheVariants.{Accept}
@@ -88,7 +88,7 @@ served-more i call served qs q lt e h =
 
 module _ {P : Type 0} (m : Meaning) (located : P → ℕ → List ℤ → List Grant → Type 0) where
   -- whether the last event was a Time does not matter
-  pub any-time : (s : State) (x : Parts P) (b : Bool) → IsState located s x → IsState located (record s { after_time = b }) x
+  pub any-time : (s : State) (x : Contents P) (b : Bool) → IsState located s x → IsState located (record s { after_time = b }) x
   any-time s x b k =
       record {
         seated = k.seated;
@@ -104,11 +104,11 @@ module _ {P : Type 0} (m : Meaning) (located : P → ℕ → List ℤ → List G
 
   -- where the kept calls are written as those of the state
   state-accepted :
-      (s : State) (x : Parts P) (index i : ℕ)
+      (s : State) (x : Contents P) (index i : ℕ)
       → IsState located s x
       → index < length s.pending
       → takes m (process_at s.processes (get_or s.pending index no_call).target.0).standing s.pending i (get_or s.pending index no_call) ≡ true
-      → IsState located (accepted s (get_or s.pending index no_call).target.0 i (get_or s.pending index no_call)) (accepted_parts (record x { pending = s.pending }) index i)
+      → IsState located (accepted s (get_or s.pending index no_call).target.0 i (get_or s.pending index no_call)) (accepted_contents (record x { pending = s.pending }) index i)
   state-accepted s x index i k lt t =
       let call = get_or s.pending index no_call in
       let q = process_at s.processes call.target.0 in
@@ -134,13 +134,13 @@ module _ {P : Type 0} (m : Meaning) (located : P → ℕ → List ℤ → List G
 
   -- a call is taken
   pub goes-more :
-      (first : State) (before events : List Event) (x : Parts P) (index i : ℕ)
+      (first : State) (before events : List Event) (x : Contents P) (index i : ℕ)
       → GoesOn m located first before events x
       → index < length x.pending
       → takes m (seat_at x.seats (get_or x.pending index no_call).target.0).standing x.pending i (get_or x.pending index no_call) ≡ true
       → GoesOn m located first before
       (events ++ Accept (get_or x.pending index no_call).target i (get_or x.pending index no_call).number ∷ [])
-      (accepted_parts x index i)
+      (accepted_contents x index i)
   goes-more first before events x index i g lt t =
       let s = after m first g.more in
       let e = Accept (get_or x.pending index no_call).target i (get_or x.pending index no_call).number in
@@ -149,15 +149,15 @@ module _ {P : Type 0} (m : Meaning) (located : P → ℕ → List ℤ → List G
       let t' : takes m (process_at s.processes (get_or s.pending index no_call).target.0).standing s.pending i (get_or s.pending index no_call) ≡ true =
       rw (g.state.pending, same) at t in
       let found = found-by-number 0 s.pending s.drawn index g.state.rising lt' in
-      let kept = state-accepted s x index i g.state lt' t' in
+      let store = state-accepted s x index i g.state lt' t' in
       record {
         more = g.more ++ e ∷ [];
         journal = ap (λ xs. xs ++ e ∷ []) g.journal ∙ append_assoc before g.more (e ∷ []);
-        quiet = turns-append g.more (e ∷ []) ∙ ap (λ n. n + 0) g.quiet;
+        settles = All-push (λ x. is_settling x ≡ true) g.more e g.settles refl;
         runs =
             IsRunFrom-append m first g.more (e ∷ []) g.runs
             (rw g.state.pending (rw (not-due m s (λ p. plain-at located s.processes x.seats p g.state.seated), found) t'), tt);
         state =
             rw (after-append m first g.more (e ∷ []))
-            (rw g.state.pending (rw found (any-time (accepted s (get_or s.pending index no_call).target.0 i (get_or s.pending index no_call)) (accepted_parts (record x { pending = s.pending }) index i) false kept)));
+            (rw g.state.pending (rw found (any-time (accepted s (get_or s.pending index no_call).target.0 i (get_or s.pending index no_call)) (accepted_contents (record x { pending = s.pending }) index i) false store)));
       }

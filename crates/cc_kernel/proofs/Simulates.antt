@@ -12,10 +12,11 @@ use Rattle.cc_base.specs.declared.request.Grant.TheVariants.{Go, Made, Gone, Byt
 use Rattle.cc_kernel.proofs.Outs.{gone_seats-append, length-gone}
 use Rattle.cc_kernel.proofs.Seated.{Seated-gone, Seated-left, Seated-length, Seated-push, Seated-ready, Seated-waiting}
 use Rattle.cc_kernel.proofs.Serving.{AllAwaited-filter, AllAwaited-push, Rising-filter, Rising-push, none-left, others-stay}
-use Rattle.cc_kernel.specs.Kept.{IsLocated, IsPlain, IsState, Parts, called_parts, got_byte, left_parts, made_parts, waited, went_on}
+use Rattle.cc_kernel.specs.Store.{IsLocated, IsPlain, IsState, Contents, called_contents, got_byte, left_contents, made_contents, waited, went_on}
 use Rattle.cc_kernel.specs.Seats.{gone_seats, is_served_by, served_call, with_left, with_ready}
 use Rattle.cc_kernel.specs.declared.seat.Seat.{Seat}
-use Rattle.cc_rules.specs.Effects.{answered, called, caller_of, each_gets_gone, ended, first_byte, grant_to, granted, is_for, most_processes, rest_of, waits_for, with_standing}
+use Rattle.cc_base.specs.Limits.{most_processes}
+use Rattle.cc_rules.specs.Effects.{answered, called, caller_of, each_gets_gone, ended, first_byte, grant_to, granted, is_for, rest_of, waits_for, with_standing}
 use Rattle.cc_rules.specs.State.{Process, State, is_over, is_running, made, process_at}
 use Rattle.cc_rules.specs.declared.process.ProcessStanding.{ProcessStanding}
 use Rattle.cc_rules.specs.declared.process.ProcessStanding.TheVariants.{AtCall}
@@ -114,7 +115,7 @@ map-append f (x ∷ xs) ys = ap (λ zs. f x ∷ zs) (map-append f xs ys)
 module _ {P : Type 0} (located : P → ℕ → List ℤ → List Grant → Type 0) where
   -- it goes on at once
   pub state-go :
-      (s : State) (x : Parts P) (p : ℕ) (process : P) (grant : Grant)
+      (s : State) (x : Contents P) (p : ℕ) (process : P) (grant : Grant)
       → IsState located s x
       → IsLocated located s p process
       → IsState located (record s { processes = grant_to s.processes p grant }) (went_on x p process grant)
@@ -133,7 +134,7 @@ module _ {P : Type 0} (located : P → ℕ → List ℤ → List Grant → Type 
 
   -- it waits
   pub state-wait :
-      (s : State) (x : Parts P) (p : ℕ) (process : P) (standing : ProcessStanding)
+      (s : State) (x : Contents P) (p : ℕ) (process : P) (standing : ProcessStanding)
       → IsState located s x
       → (is_over standing ≡ false) × (is_running standing ≡ false) × IsPlain standing
       → IsLocated located s p process
@@ -153,12 +154,12 @@ module _ {P : Type 0} (located : P → ℕ → List ℤ → List Grant → Type 
 
   -- a call is pending
   state-called :
-      (s : State) (x : Parts P) (p : Pid) (process : P) (target : Pid) (trans : ℕ) (args : List ℤ)
+      (s : State) (x : Contents P) (p : Pid) (process : P) (target : Pid) (trans : ℕ) (args : List ℤ)
       → IsState located s x
       → IsLocated located s p.0 process
       → IsState located
       (called s (with_standing s.processes p.0 (AtCall (record { 0 = s.drawn }))) target trans args (Caller p))
-      (called_parts (record x { pending = s.pending; drawn = s.drawn }) p process target trans args)
+      (called_contents (record x { pending = s.pending; drawn = s.drawn }) p process target trans args)
   state-called s x p process target trans args k is =
       let standing : ProcessStanding = AtCall (record { 0 = s.drawn }) in
       let w = state-wait s x p.0 process standing k (refl, refl, tt) is in
@@ -176,22 +177,22 @@ module _ {P : Type 0} (located : P → ℕ → List ℤ → List Grant → Type 
       }
 
   pub state-call :
-      (s : State) (x : Parts P) (p : Pid) (process : P) (target : Pid) (trans : ℕ) (args : List ℤ)
+      (s : State) (x : Contents P) (p : Pid) (process : P) (target : Pid) (trans : ℕ) (args : List ℤ)
       → IsState located s x
       → IsLocated located s p.0 process
       → IsState located
       (called s (with_standing s.processes p.0 (AtCall (record { 0 = s.drawn }))) target trans args (Caller p))
-      (called_parts x p process target trans args)
+      (called_contents x p process target trans args)
   state-call s x p process target trans args k is =
       rw (k.pending, k.drawn) (state-called s x p process target trans args k is)
 
   -- it is over
   pub state-leave :
-      (s : State) (x : Parts P) (p : ℕ) (standing : ProcessStanding)
+      (s : State) (x : Contents P) (p : ℕ) (standing : ProcessStanding)
       → IsState located s x
       → p < length x.seats
       → (is_over standing ≡ true) × IsPlain standing
-      → IsState located (ended s p standing) (left_parts x p standing)
+      → IsState located (ended s p standing) (left_contents x p standing)
   state-leave s x p standing k lt w =
       let q : Process = record (process_at s.processes p) { standing = standing; serving = [] } in
       record {
@@ -217,7 +218,7 @@ module _ {P : Type 0} (located : P → ℕ → List ℤ → List Grant → Type 
       }
     where
       left-served :
-          (s : State) (x : Parts P) (p : ℕ) (q : Process) (i : ℕ)
+          (s : State) (x : Contents P) (p : ℕ) (q : Process) (i : ℕ)
           → IsState located s x
           → p < length x.seats
           → q.serving ≡ []
@@ -233,14 +234,14 @@ module _ {P : Type 0} (located : P → ℕ → List ℤ → List Grant → Type 
 
   -- it made another
   pub state-make :
-      (s : State) (x : Parts P) (p : ℕ) (process new : P) (kind : ℕ) (args : List ℤ)
+      (s : State) (x : Contents P) (p : ℕ) (process new : P) (kind : ℕ) (args : List ℤ)
       → IsState located s x
       → length x.seats < most_processes
       → IsLocated located s p process
       → located new kind args []
       → IsState located
       (record s { processes = grant_to s.processes p (Made (record { 0 = length s.processes })) ++ made kind args ∷ [] })
-      (made_parts x p process new)
+      (made_contents x p process new)
   state-make s x p process new kind args k lt is starts =
       let grant : Grant = Made (record { 0 = length s.processes }) in
       let go = state-go s x p process grant k is in
@@ -248,7 +249,7 @@ module _ {P : Type 0} (located : P → ℕ → List ℤ → List Grant → Type 
       (record {
         seated =
             Seated-push located (grant_to s.processes p grant) (set x.seats p (with_ready process grant)) (made kind args) (with_ready new Go) go.seated
-            (record { standing = refl; place = (refl, ([], refl, starts)); plain = tt });
+            (record { standing = refl; whereabouts = (refl, ([], refl, starts)); plain = tt });
         few = pushed-few (set x.seats p (with_ready process grant)) (with_ready new Go) (rw length-set lt);
         pending = k.pending;
         served = λ i. go.served i ∙ ap (map served_call) (sym (serving-push (grant_to s.processes p grant) (made kind args) i refl));
@@ -264,7 +265,7 @@ module _ {P : Type 0} (located : P → ℕ → List ℤ → List Grant → Type 
 
   -- it took a byte
   pub state-get :
-      (s : State) (x : Parts P) (p : ℕ) (process : P)
+      (s : State) (x : Contents P) (p : ℕ) (process : P)
       → IsState located s x
       → IsLocated located s p process
       → IsState located

@@ -7,10 +7,10 @@ use Rattle.cc_base.specs.Meaning.{Meaning}
 use Rattle.cc_base.specs.declared.request.Grant.{Grant}
 use Rattle.cc_kernel.proofs.Plain.{no-deadlines, not-unsettled}
 use Rattle.cc_kernel.proofs.Seated.{plain-at, same-standing}
-use Rattle.cc_kernel.specs.Held.{SomeRunning}
+use Rattle.cc_kernel.specs.Contract.{SomeRunning}
 use Rattle.cc_kernel.specs.Seats.{seat_at}
-use Rattle.cc_kernel.specs.Kept.{IsState, Parts, Seated}
-use Rattle.cc_kernel.specs.Standing.{deadlines, least, standing_in}
+use Rattle.cc_kernel.specs.Store.{IsState, Contents, Seated}
+use Rattle.cc_rules.specs.Standing.{deadlines, least, standing_in}
 use Rattle.cc_kernel.specs.declared.seat.Seat.{Seat}
 use Rattle.cc_rules.specs.Choice.{is_acceptable}
 use Rattle.cc_rules.specs.Ends.{has_deadline, has_faulted, has_running, is_complete, is_unsettled}
@@ -98,7 +98,7 @@ module _ {P : Type 0} (located : P → ℕ → List ℤ → List Grant → Type 
 
   -- how it stands, by the seats
   pub stands-as :
-      (m : Meaning) (s : State) (x : Parts P) (spent allowed : ℕ)
+      (m : Meaning) (s : State) (x : Contents P) (spent allowed : ℕ)
       → IsState located s x
       → list_any (is_acceptable m s) s.pending ≡ false
       → standing_in m s spent allowed
@@ -165,7 +165,7 @@ not-all-over (seat ∷ seats) (suc i) h = and-behind (is_over seat.standing) (li
 
 -- a run with turns left in which a process is running goes on
 pub running-goes :
-    {P : Type 0} (located : P → ℕ → List ℤ → List Grant → Type 0) (m : Meaning) (s : State) (x : Parts P) (spent allowed i : ℕ)
+    {P : Type 0} (located : P → ℕ → List ℤ → List Grant → Type 0) (m : Meaning) (s : State) (x : Contents P) (spent allowed i : ℕ)
     → IsState located s x
     → list_any (is_acceptable m s) s.pending ≡ false
     → nat_eq spent allowed ≡ false
@@ -184,7 +184,7 @@ shape-left false false spent faulted h = cc
 
 -- a run that goes on has turns left
 pub going-left :
-    {P : Type 0} (located : P → ℕ → List ℤ → List Grant → Type 0) (m : Meaning) (s : State) (x : Parts P) (spent allowed : ℕ)
+    {P : Type 0} (located : P → ℕ → List ℤ → List Grant → Type 0) (m : Meaning) (s : State) (x : Contents P) (spent allowed : ℕ)
     → IsState located s x
     → list_any (is_acceptable m s) s.pending ≡ false
     → standing_in m s spent allowed ≡ Going

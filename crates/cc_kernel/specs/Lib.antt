@@ -1,10 +1,14 @@
+-- what a kernel is to its callers
+pub mod Contract
+-- the lists of this crate: seats, pending calls, served calls
 pub mod Lists
+-- the seats of the processes, and the calls that they serve
 pub mod Seats
+-- what is kept of a state, and when it is the state that the machine is in
+pub mod Store
+-- when a kernel is one
+pub mod Invariant
+-- which pending calls may be taken, as the lists tell it
 pub mod Choice
-pub mod Kept
+-- what settling does
 pub mod Settles
-pub mod Standing
-pub mod Held
-pub mod Faults
-pub mod Scripted
-pub mod ScriptedLaws

@@ -1,14 +1,17 @@
 -- The seats of the processes, and the calls that they serve, as lists.
-use Rattle.std.specs.Prelude.{◌≡◌, ℕ, Bool, true, false, List, [], ◌∷◌, ◌++◌, get_or, set, nat_eq, if◌then◌else◌}
+use Rattle.std.specs.Prelude.{◌≡◌, ℕ, ◌+◌, Bool, true, false, List, [], ◌∷◌, ◌++◌, get_or, set, nat_eq, if◌then◌else◌}
 use Rattle.std.specs.List.{filter}
 use Rattle.std.specs.Option.{option_map_or}
+use Rattle.cc_base.specs.declared.names.FaultKind.{FaultKind}
+use Rattle.cc_base.specs.declared.names.Pid.{Pid}
 use Rattle.cc_base.specs.declared.request.Grant.{Grant}
 use Rattle.cc_base.specs.declared.request.Grant.TheVariants.{Gone}
-use Rattle.cc_kernel.specs.declared.seat.Place.{Place}
-use Rattle.cc_kernel.specs.declared.seat.Place.TheVariants.{Ready, Out, Waits, Left}
+use Rattle.cc_kernel.specs.declared.seat.Whereabouts.{Whereabouts}
+use Rattle.cc_kernel.specs.declared.seat.Whereabouts.TheVariants.{Ready, Out, Waits, Left}
 use Rattle.cc_kernel.specs.declared.seat.Seat.{Seat}
 use Rattle.cc_kernel.specs.declared.served.ServedCall.{ServedCall}
 use Rattle.cc_rules.specs.Effects.{caller_of, waits_for}
+use Rattle.cc_rules.specs.Faulted.{fault_of}
 use Rattle.cc_rules.specs.declared.process.ProcessStanding.{ProcessStanding}
 use Rattle.cc_rules.specs.declared.process.ProcessStanding.TheVariants.{Running, Ended}
 use Rattle.cc_rules.specs.declared.process.TransactionCall.{TransactionCall}
@@ -40,52 +43,52 @@ pub record SplitsAt (server : ℕ) (call : ServedCall) (old new : List ServedCal
 module _ {P : Type 0} where
   -- what stands for the seat of a process that was never made
   abbrev pub vacant : Seat P
-  vacant = record { standing = Ended; place = Left }
+  vacant = record { standing = Ended; whereabouts = Left }
 
   abbrev pub seat_at : List (Seat P) → ℕ → Seat P
   seat_at seats p = get_or seats p vacant
 
-  abbrev pub is_out_place : Place P → Bool
-  is_out_place (Ready process grant) = false
-  is_out_place Out = true
-  is_out_place (Waits process) = false
-  is_out_place Left = false
+  abbrev pub whereabouts_out : Whereabouts P → Bool
+  whereabouts_out (Ready process grant) = false
+  whereabouts_out Out = true
+  whereabouts_out (Waits process) = false
+  whereabouts_out Left = false
 
   -- the process is out
   abbrev pub is_out : Seat P → Bool
-  is_out seat = is_out_place seat.place
+  is_out seat = whereabouts_out seat.whereabouts
 
-  abbrev pub is_ready_place : Place P → Bool
-  is_ready_place (Ready process grant) = true
-  is_ready_place Out = false
-  is_ready_place (Waits process) = false
-  is_ready_place Left = false
+  abbrev pub whereabouts_ready : Whereabouts P → Bool
+  whereabouts_ready (Ready process grant) = true
+  whereabouts_ready Out = false
+  whereabouts_ready (Waits process) = false
+  whereabouts_ready Left = false
 
   -- the process is here and may go on
   abbrev pub is_ready : Seat P → Bool
-  is_ready seat = is_ready_place seat.place
+  is_ready seat = whereabouts_ready seat.whereabouts
 
   abbrev pub with_ready : P → Grant → Seat P
-  with_ready process grant = record { standing = Running; place = Ready process grant }
+  with_ready process grant = record { standing = Running; whereabouts = Ready process grant }
 
   abbrev pub with_out : Seat P → Seat P
-  with_out seat = record { standing = seat.standing; place = Out }
+  with_out seat = record { standing = seat.standing; whereabouts = Out }
 
   abbrev pub with_waiting : P → ProcessStanding → Seat P
-  with_waiting process standing = record { standing = standing; place = Waits process }
+  with_waiting process standing = record { standing = standing; whereabouts = Waits process }
 
   abbrev pub with_left : ProcessStanding → Seat P
-  with_left standing = record { standing = standing; place = Left }
+  with_left standing = record { standing = standing; whereabouts = Left }
 
-  abbrev pub woken_place : Place P → Grant → Place P
-  woken_place (Ready process old) grant = Ready process old
-  woken_place Out grant = Out
-  woken_place (Waits process) grant = Ready process grant
-  woken_place Left grant = Left
+  abbrev pub whereabouts_woken : Whereabouts P → Grant → Whereabouts P
+  whereabouts_woken (Ready process old) grant = Ready process old
+  whereabouts_woken Out grant = Out
+  whereabouts_woken (Waits process) grant = Ready process grant
+  whereabouts_woken Left grant = Left
 
   -- a process that waits goes on with this grant
   abbrev pub woken : Seat P → Grant → Seat P
-  woken seat grant = record { standing = Running; place = woken_place seat.place grant }
+  woken seat grant = record { standing = Running; whereabouts = whereabouts_woken seat.whereabouts grant }
 
   -- the caller of this call, where one waits, goes on with this grant
   abbrev pub answered_seats : List (Seat P) → ServedCall → Grant → List (Seat P)
@@ -100,10 +103,7 @@ module _ {P : Type 0} where
   gone_seats seats [] = seats
   gone_seats seats (call ∷ calls) = gone_seats (answered_seats seats call Gone) calls
 
--- the process of this number is out
-abbrev pub is_out_in : List Bool → ℕ → Bool
-is_out_in outs p = get_or outs p false
-
--- the same processes are out
-abbrev pub SameOuts : List Bool → List Bool → Type 0
-SameOuts outs outs' = (p : ℕ) → is_out_in outs p ≡ is_out_in outs' p
+-- the faults of the processes in these seats, of which the first has this number
+abbrev pub seat_faults : {P : Type 0} → ℕ → List (Seat P) → List (Pid × FaultKind)
+seat_faults p [] = []
+seat_faults p (seat ∷ seats) = fault_of p seat.standing ++ seat_faults (p + 1) seats

@@ -1,26 +1,11 @@
-ghost use Rattle.std.specs.Prelude.{◌≡◌, ◌+◌, ◌<◌, ◌≤◌, ◌++◌, [], ℕ, All, MatchOption, length};
-ghost use Rattle.cc_kernel.specs.Faults.{fault_of, seat_faults};
-ghost use Rattle.cc_kernel.specs.Seats.{seat_at};
-ghost use Rattle.cc_rules.specs.Effects.{most_processes};
-ghost use Rattle.cc_rules.specs.declared.process.ProcessStanding.TheVariants.{Faulted};
+ghost use Rattle.std.specs.Prelude.{◌≡◌, ◌+◌, ◌<◌, ◌≤◌, ◌++◌, [], All, length};
+ghost use Rattle.cc_kernel.specs.Seats.{seat_at, seat_faults};
+ghost use Rattle.cc_base.specs.Limits.{most_processes};
+ghost use Rattle.cc_rules.specs.Faulted.{fault_of};
 
 use crate::seats::Seats;
-use cc_base::{FaultKind, Pid};
-use cc_rules::{Faults, ProcessStanding};
-
-// The fault by which a process that stands so was stopped.
-fn fault_of(standing: &ProcessStanding) -> Option<FaultKind>
-    ensures { MatchOption result ((p : ℕ) → fault_of p standing.now ≡ []) (λ kind. standing.now ≡ Faulted kind) }
-{
-    match standing {
-        ProcessStanding::Running => None,
-        ProcessStanding::AtSelect { .. } => None,
-        ProcessStanding::AtDelay { .. } => None,
-        ProcessStanding::AtCall { .. } => None,
-        ProcessStanding::Ended => None,
-        ProcessStanding::Faulted { kind } => Some(*kind),
-    }
-}
+use cc_base::Pid;
+use cc_rules::Faults;
 
 // Lists the process, where it was stopped by a fault, after those of smaller numbers.
 fn list_fault<P: Drop>(seats: &Seats<P>, faults: &mut Faults, at: usize)
@@ -34,7 +19,7 @@ fn list_fault<P: Drop>(seats: &Seats<P>, faults: &mut Faults, at: usize)
     let Some(standing) = seats.standing(at) else {
         return;
     };
-    let Some(kind) = fault_of(standing) else {
+    let Some(kind) = standing.fault() else {
         return;
     };
     faults.add((Pid(at as u32), kind));

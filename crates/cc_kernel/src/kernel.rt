@@ -1,23 +1,22 @@
 ghost use Rattle.std.specs.Prelude.{◌≡◌, ◌≢◌, ℕ, ◌≤◌, ◌++◌, ◌⊎◌, [], ◌∷◌, false, true, IfOk, IfNone, IfSome, OnErr, OnOk, Some, set, slice_get};
-ghost use Rattle.cc_kernel.specs.Faults.{faults_from};
-ghost use Rattle.cc_base.specs.Served.{IsServed};
-ghost use Rattle.cc_kernel.specs.Held.{AllOut, AsksNow, IsOutWith, IsOver, IsPreparedFor, IsReadyWith, Moment, Nothing, OthersStay, OutsRun, SomeRunning, StepsOn};
-ghost use Rattle.cc_kernel.specs.Seats.{SameOuts, is_out_in};
-ghost use Rattle.cc_kernel.specs.Standing.{standing_of};
-ghost use Rattle.cc_rules.specs.Events.{request_at, word_of};
+ghost use Rattle.cc_base.specs.Supported.{IsSupported};
+ghost use Rattle.cc_kernel.specs.Contract.{AllOut, AsksNow, IsOutWith, IsPreparedFor, IsReadyWith, Moment, Nothing, OthersStay, OutsRun, SameOuts, SomeRunning, StepsOn, is_out_in};
+ghost use Rattle.cc_rules.specs.Standing.{IsOver, standing_of};
+ghost use Rattle.cc_rules.specs.Events.{request_at};
+ghost use Rattle.cc_rules.specs.Faulted.{faults_from};
 ghost use Rattle.cc_rules.specs.Runs.{IsRun, IsSettledRun, bytes_of, printed, state_after, turns};
 ghost use Rattle.cc_rules.specs.declared.event.Standing.TheVariants.{Going, Idle};
 
-use crate::asks::MOST_PROCESSES;
 use crate::calls::{Pending, Served};
 use crate::faults::list_faults;
-use crate::kept::Kept;
 use crate::need::Need;
+use crate::perform::perform;
 use crate::prepare::{make_room, need_of};
-use crate::seat::{Place, Seat};
+use crate::seat::{Seat, Whereabouts};
 use crate::seats::Seats;
-use crate::serve::serve;
 use crate::settle::settle;
+use crate::store::Store;
+use cc_base::limits::MOST_PROCESSES;
 use cc_base::{Behave, Bytes, Cells, Grant, Memory, Pid, Request};
 use cc_rules::{Event, Faults, Journal, ProcessStanding, Standing, Word};
 use std::alloc::Global;
@@ -33,21 +32,22 @@ pub struct Kernel<B: Behave> {
     turns: u32,
     spent: u32,
     journal: Journal,
-    kept: Kept<B::Proc>,
+    store: Store<B::Proc>,
     need: Need<B::Proc>,
     faults: Faults,
 }
 
 impl<B: Behave> Model for Kernel<B> {
     ghost use Rattle.std.specs.Prelude.{map};
-    ghost use Rattle.cc_kernel.specs.Held.{Held, IsKept, prepared_for};
+    ghost use Rattle.cc_kernel.specs.Contract.{KernelView};
+    ghost use Rattle.cc_kernel.specs.Invariant.{IsKept, prepared_for};
     ghost use Rattle.cc_kernel.specs.Seats.{is_out};
 
-    ghost Value = { Held B };
+    ghost Value = { KernelView B };
 
-    ghost view = { λ k. record { code = k.code.value; input = k.kept.input; turns = k.turns; journal = k.journal.items; outs = map is_out k.kept.seats.items; prepared = prepared_for k.need } };
+    ghost view = { λ k. record { code = k.code.value; input = k.store.input; turns = k.turns; journal = k.journal.items; outs = map is_out k.store.seats.items; prepared = prepared_for k.need } };
 
-    ghost invariant = { λ k. IsKept (B.means k.code.value) (B.at k.code.value) k.turns k.spent k.journal.items k.journal.spare k.kept k.need k.faults };
+    ghost invariant = { λ k. IsKept (B.means k.code.value) (B.at k.code.value) k.turns k.spent k.journal.items k.journal.spare k.store k.need k.faults };
 }
 
 impl<B: Behave> Kernel<B> {
@@ -65,20 +65,20 @@ impl<B: Behave> Kernel<B> {
         seats.reserve(1)?;
         seats.add(Seat {
             standing: ProcessStanding::Running,
-            place: Place::Ready {
+            whereabouts: Whereabouts::Ready {
                 process,
                 grant: Grant::Go,
             },
         });
         let mut faults = Faults::new(alloc);
-        faults.reserve(MOST_PROCESSES)?;
+        faults.reserve(MOST_PROCESSES as usize)?;
         Ok(Kernel {
             alloc,
             code,
             turns,
             spent: 0,
             journal: Journal::new(alloc),
-            kept: Kept {
+            store: Store {
                 seats,
                 pending: Pending::new(alloc),
                 served: Served::new(alloc),
@@ -96,14 +96,14 @@ impl<B: Behave> Kernel<B> {
     /// it was.
     pub fn prepare(&mut self, next: Option<&Request>) -> Result<(), Memory>
         requires asks { IfSome next (λ r. AsksNow (B.means self.old.code) self.old.input self.old.journal self.old.outs r.now) }
-        requires served { IfSome next (λ r. IsServed r.now) }
+        requires supported { IfSome next (λ r. IsSupported r.now) }
         ensures request { IfSome next.entry (λ r. OnOk result (IsPreparedFor self.new r.now)) }
         ensures time { IfNone next.entry (OnOk result (self.new.prepared ≡ Moment)) }
         ensures rest { self.new ≡ record self.old { prepared = self.new.prepared } }
         ensures err { OnErr result (self.new ≡ self.old) }
     {
-        let need = need_of(&self.code, self.alloc, self.kept.served.as_slice(), next)?;
-        make_room(&mut self.kept, &mut self.journal)?;
+        let need = need_of(&self.code, self.alloc, self.store.served.as_slice(), next)?;
+        make_room(&mut self.store, &mut self.journal)?;
         self.need = need;
         Ok(())
     }
@@ -115,7 +115,7 @@ impl<B: Behave> Kernel<B> {
         requires out { IsOutWith (B.means self.old.code) (B.at self.old.code) self.old.input self.old.journal self.old.outs pid.0 process }
         requires asks { request ≡ request_at (B.means self.old.code) (state_after (B.means self.old.code) self.old.input self.old.journal) pid }
         requires going { standing_of (B.means self.old.code) self.old.input self.old.journal self.old.turns ≡ Going }
-        requires served { IsServed request }
+        requires supported { IsSupported request }
         ensures code { self.new.code ≡ self.old.code }
         ensures input { self.new.input ≡ self.old.input }
         ensures turns { self.new.turns ≡ self.old.turns }
@@ -129,12 +129,12 @@ impl<B: Behave> Kernel<B> {
         ensures printed { printed (B.means self.new.code) self.new.input self.new.journal ≡ printed (B.means self.old.code) self.old.input self.old.journal ++ bytes_of request }
         ensures others { OthersStay (B.means self.new.code) self.new.input self.old.journal self.new.journal self.old.outs pid }
     {
-        let word = word(&request);
+        let word = Word::of(&request);
         let need = mem::replace(&mut self.need, Need::Nothing);
-        let bytes = serve(
+        let bytes = perform(
             &*self.code,
             self.alloc,
-            &mut self.kept,
+            &mut self.store,
             pid,
             process,
             request,
@@ -142,7 +142,7 @@ impl<B: Behave> Kernel<B> {
         );
         self.journal.add(Event::Ask { pid, word });
         self.spent += 1;
-        settle(&*self.code, &mut self.kept, &mut self.journal);
+        settle(&*self.code, &mut self.store, &mut self.journal);
         bytes
     }
 
@@ -160,27 +160,27 @@ impl<B: Behave> Kernel<B> {
         if self.spent == self.turns {
             return None;
         }
-        let Some(at) = self.kept.seats.first_ready() else {
+        let Some(at) = self.store.seats.first_ready() else {
             return None;
         };
-        match self.kept.seats.take(at) {
+        match self.store.seats.take(at) {
             Some((process, grant)) => Some((Pid(at as u32), process, grant)),
             None => unreachable!(),
         }
     }
 
-    /// How the run stands. It is never idle, since nothing that is served has a deadline.
+    /// How the run stands. It is never idle, since no supported request has a deadline.
     pub fn state(&self) -> Standing
         ensures standing { result ≡ standing_of (B.means self.now.code) self.now.input self.now.journal self.now.turns }
         ensures going { result ≡ Going → SomeRunning (B.means self.now.code) self.now.input self.now.journal }
         ensures never_idle { (until : ℕ) → result ≢ Idle until }
     {
-        if self.kept.seats.all_over() {
+        if self.store.seats.all_over() {
             return Standing::Ended {
-                faulted: self.kept.seats.some_faulted(),
+                faulted: self.store.seats.some_faulted(),
             };
         }
-        if !self.kept.seats.some_running() {
+        if !self.store.seats.some_running() {
             return Standing::Stuck;
         }
         if self.spent == self.turns {
@@ -209,26 +209,7 @@ impl<B: Behave> Kernel<B> {
         ensures faults { result.1.items ≡ faults_from 0 (state_after (B.means self.code) self.input self.journal).processes }
     {
         let mut faults = self.faults;
-        list_faults(&self.kept.seats, &mut faults);
+        list_faults(&self.store.seats, &mut faults);
         (self.journal, faults)
-    }
-}
-
-fn word(request: &Request) -> Word
-    ensures { result ≡ word_of request.now }
-{
-    match request {
-        Request::Pause => Word::Pause,
-        Request::Create { .. } => Word::Create,
-        Request::Call { .. } => Word::Call,
-        Request::TimedCall { .. } => Word::TimedCall,
-        Request::Send { .. } => Word::Send,
-        Request::Select { .. } => Word::Select,
-        Request::Delay { .. } => Word::Delay,
-        Request::Reply { .. } => Word::Reply,
-        Request::Print { .. } => Word::Print,
-        Request::Get => Word::Get,
-        Request::Done => Word::Done,
-        Request::Fault { .. } => Word::Fault,
     }
 }

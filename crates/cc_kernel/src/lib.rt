@@ -1,12 +1,14 @@
 //! The kernel: it keeps the journal of a run, and decides which event comes next.
 //!
-//! What is kept (`Kept`) are lists: a seat for each process by number, the pending calls in the order asked, and the calls
-//! that are being served in the order accepted. A seat says how its process stands and where the process is: ready with
-//! its next grant, out, waiting, or gone. The state of the machine isn't stored. It is the run of the journal, and the
-//! kernel's invariant says that what is kept is that state (`IsState` in `specs/Kept`, `IsKept` in `specs/Held`).
+//! What a kernel is to its callers stands in `specs/Contract`, and speaks of nothing inside.
 //!
-//! A step has three parts: what the process asks is done (`serve`), the journal says so, and calls are taken until none
-//! can be (`settle`). All memory of a step is taken before it (`prepare`), so that no step is ever half done: room for the
+//! What is kept (`Store`) are lists: a seat for each process by number, the pending calls in the order asked, and the calls
+//! that are being served in the order accepted. A seat says how its process stands and its whereabouts: ready with its next
+//! grant, out, waiting, or gone. The state of the machine isn't stored. It is the run of the journal, and the kernel's
+//! invariant says that what is kept is that state (`IsState` in `specs/Store`, `IsKept` in `specs/Invariant`).
+//!
+//! A step has three parts: what the process asks is performed (`perform`), the journal says so, and calls are taken until
+//! none can be (`settle`). All memory of a step is taken before it (`prepare`), so that no step is ever half done: room for the
 //! events, for one more pending call, for as many served calls as are pending, for one more seat, the process that a Create
 //! makes, and the value of a Reply with enough zeros at its end.
 //!
@@ -19,17 +21,14 @@ mod asks;
 mod calls;
 mod choice;
 mod faults;
-mod kept;
 mod kernel;
 mod need;
+mod perform;
 mod prepare;
 mod seat;
 mod seats;
-mod serve;
 mod served;
 mod settle;
+mod store;
 
 pub use kernel::Kernel;
-
-#[cfg(test)]
-mod tests;

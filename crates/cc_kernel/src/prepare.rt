@@ -1,32 +1,33 @@
 ghost use Rattle.std.specs.Prelude.{◌≡◌, ◌+◌, ◌<◌, ◌≤◌, ◌++◌, ℕ, ℤ, List, All, IfNone, IfOk, IfSome, OnOk, length, pos, replicate};
 ghost use Rattle.cc_base.specs.Grants.{HasKind};
 ghost use Rattle.cc_base.specs.declared.request.Request.TheVariants.{Create};
-ghost use Rattle.cc_kernel.specs.Held.{HasRoom, IsEnoughFor, IsReadyFor, Moment, prepared_for};
-ghost use Rattle.cc_kernel.specs.Kept.{parts};
-ghost use Rattle.cc_kernel.specs.declared.kept.Kept.{Kept};
+ghost use Rattle.cc_kernel.specs.Contract.{IsEnoughFor, Moment};
+ghost use Rattle.cc_kernel.specs.Invariant.{HasRoom, IsReadyFor, prepared_for};
+ghost use Rattle.cc_kernel.specs.Store.{contents};
+ghost use Rattle.cc_kernel.specs.declared.store.Store.{Store};
 ghost use Rattle.cc_base.specs.Grants.{value_cells};
 
-use crate::kept::Kept;
 use crate::need::Need;
 use crate::served::ServedCall;
+use crate::store::Store;
 use cc_base::{Behave, Cells, Memory, Request};
 use cc_rules::Journal;
 use std::alloc::Global;
 use std::sync::Arc;
 
 /// Makes room for the events, the calls and the process of one step.
-pub(crate) fn make_room<P: Drop>(kept: &mut Kept<P>, journal: &mut Journal) -> Result<(), Memory>
-    requires { length kept.old.pending.items ≤ kept.old.drawn }
-    ensures parts { parts kept.new ≡ parts kept.old }
+pub(crate) fn make_room<P: Drop>(store: &mut Store<P>, journal: &mut Journal) -> Result<(), Memory>
+    requires { length store.old.pending.items ≤ store.old.drawn }
+    ensures contents { contents store.new ≡ contents store.old }
     ensures items { journal.new.items ≡ journal.old.items }
-    ensures ok { OnOk result (HasRoom kept.new journal.new.spare) }
-    ensures room { HasRoom kept.old journal.old.spare → HasRoom kept.new journal.new.spare }
+    ensures ok { OnOk result (HasRoom store.new journal.new.spare) }
+    ensures room { HasRoom store.old journal.old.spare → HasRoom store.new journal.new.spare }
 {
-    let pending = kept.pending.len();
+    let pending = store.pending.len();
     journal.reserve(pending + 2)?;
-    kept.pending.reserve(1)?;
-    kept.served.reserve(pending + 1)?;
-    kept.seats.reserve(1)
+    store.pending.reserve(1)?;
+    store.served.reserve(pending + 1)?;
+    store.seats.reserve(1)
 }
 
 // The most cells that the value of one of these calls has.
@@ -63,7 +64,7 @@ pub(crate) fn need_for<B: Behave>(
     requires kind { (kind : ℕ) (args : List ℤ) → request.now ≡ Create kind args → HasKind (B.means code.now.value) kind (length args) }
     requires known { All (λ call. call.trans < length (B.means code.now.value).shapes) served.now }
     ensures enough { IfOk result (λ need. IsEnoughFor (prepared_for need) request.now) }
-    ensures ready { IfOk result (λ need. (kept : Kept B.Proc) (events : ℕ) → kept.served.items ≡ served.now → HasRoom kept events → IsReadyFor (B.means code.now.value) (B.at code.now.value) kept events need) }
+    ensures ready { IfOk result (λ need. (store : Store B.Proc) (events : ℕ) → store.served.items ≡ served.now → HasRoom store events → IsReadyFor (B.means code.now.value) (B.at code.now.value) store events need) }
 {
     match request {
         Request::Create { kind, args } => {
@@ -95,7 +96,7 @@ pub(crate) fn need_of<B: Behave>(
     requires known { All (λ call. call.trans < length (B.means code.now.value).shapes) served.now }
     ensures request { IfSome next.entry (λ r. IfOk result (λ need. IsEnoughFor (prepared_for need) r.now)) }
     ensures time { IfNone next.entry (IfOk result (λ need. prepared_for need ≡ Moment)) }
-    ensures ready { IfOk result (λ need. (kept : Kept B.Proc) (events : ℕ) → kept.served.items ≡ served.now → HasRoom kept events → IsReadyFor (B.means code.now.value) (B.at code.now.value) kept events need) }
+    ensures ready { IfOk result (λ need. (store : Store B.Proc) (events : ℕ) → store.served.items ≡ served.now → HasRoom store events → IsReadyFor (B.means code.now.value) (B.at code.now.value) store events need) }
 {
     match next {
         None => Ok(Need::Moment),

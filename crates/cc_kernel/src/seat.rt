@@ -3,7 +3,7 @@ use cc_rules::ProcessStanding;
 
 /// Where a process is.
 #[derive(Drop)]
-pub enum Place<P> {
+pub enum Whereabouts<P> {
     /// Here, and still to be given this grant.
     Ready { process: P, grant: Grant },
     /// Out, with whoever picked it.
@@ -18,5 +18,5 @@ pub enum Place<P> {
 #[derive(Drop)]
 pub struct Seat<P> {
     pub standing: ProcessStanding,
-    pub place: Place<P>,
+    pub whereabouts: Whereabouts<P>,
 }

@@ -1,14 +1,14 @@
 ghost use Rattle.std.specs.Prelude.{◌≡◌, [], ◌∷◌, ◌++◌, ◌+◌, ◌<◌, ◌≤◌, length, map, set, ℕ, true, false, OnOk, OnErr, MatchOption, not};
 ghost use Rattle.std.specs.List.{filter, list_all, list_any};
-ghost use Rattle.cc_rules.specs.Effects.{is_for, caller_of, waits_for};
+ghost use Rattle.cc_rules.specs.Effects.{is_for, waits_for};
 ghost use Rattle.cc_rules.specs.State.{is_faulted, is_over, is_running};
 ghost use Rattle.cc_kernel.specs.Seats.{answered_seats, gone_seats, is_ready, is_served_by, seat_at, served_call, with_left, with_out, with_ready, with_waiting, woken};
-ghost use Rattle.cc_kernel.specs.declared.seat.Place.TheVariants.{Ready};
+ghost use Rattle.cc_kernel.specs.declared.seat.Whereabouts.TheVariants.{Ready};
 
-use crate::seat::{Place, Seat};
+use crate::seat::{Seat, Whereabouts};
 use crate::served::{ServedCall, served_call};
 use cc_base::{CallId, Grant, Memory, Pid};
-use cc_rules::{ProcessStanding, TransactionCall, Waiting};
+use cc_rules::{ProcessStanding, TransactionCall};
 use std::alloc::Global;
 use std::marker::Model;
 use std::mem;
@@ -79,7 +79,7 @@ impl<P: Drop> Seats<P> {
     {
         self.items[at] = Seat {
             standing: ProcessStanding::Running,
-            place: Place::Ready { process, grant },
+            whereabouts: Whereabouts::Ready { process, grant },
         };
     }
 
@@ -90,7 +90,7 @@ impl<P: Drop> Seats<P> {
     {
         self.items[at] = Seat {
             standing,
-            place: Place::Waits { process },
+            whereabouts: Whereabouts::Waits { process },
         };
     }
 
@@ -101,21 +101,21 @@ impl<P: Drop> Seats<P> {
     {
         self.items[at] = Seat {
             standing,
-            place: Place::Left,
+            whereabouts: Whereabouts::Left,
         };
     }
 
     /// Takes a process out that is ready.
     pub(crate) fn take(&mut self, at: usize) -> Option<(P, Grant)>
         requires { at < length self.old.items }
-        ensures place { MatchOption result ((self.new.items ≡ self.old.items) × (is_ready (seat_at self.old.items at) ≡ false)) (λ r. ((seat_at self.old.items at).place ≡ Ready r.0 r.1) × (self.new.items ≡ set self.old.items at (with_out (seat_at self.old.items at)))) }
+        ensures whereabouts { MatchOption result ((self.new.items ≡ self.old.items) × (is_ready (seat_at self.old.items at) ≡ false)) (λ r. ((seat_at self.old.items at).whereabouts ≡ Ready r.0 r.1) × (self.new.items ≡ set self.old.items at (with_out (seat_at self.old.items at)))) }
         ensures spare { self.new.spare ≡ self.old.spare }
     {
         let seat = &mut self.items[at];
-        match mem::replace(&mut seat.place, Place::Out) {
-            Place::Ready { process, grant } => Some((process, grant)),
+        match mem::replace(&mut seat.whereabouts, Whereabouts::Out) {
+            Whereabouts::Ready { process, grant } => Some((process, grant)),
             other => {
-                seat.place = other;
+                seat.whereabouts = other;
                 None
             }
         }
@@ -140,12 +140,12 @@ impl<P: Drop> Seats<P> {
     {
         let seat = &mut self.items[at];
         seat.standing = ProcessStanding::Running;
-        match mem::replace(&mut seat.place, Place::Out) {
-            Place::Waits { process } => {
-                seat.place = Place::Ready { process, grant };
+        match mem::replace(&mut seat.whereabouts, Whereabouts::Out) {
+            Whereabouts::Waits { process } => {
+                seat.whereabouts = Whereabouts::Ready { process, grant };
             }
             other => {
-                seat.place = other;
+                seat.whereabouts = other;
             }
         }
     }
@@ -164,7 +164,7 @@ impl<P: Drop> Seats<P> {
     pub(crate) fn answer(&mut self, call: ServedCall, grant: Grant)
         ensures { self.new.items ≡ answered_seats self.old.items call grant }
     {
-        let Some(caller) = caller_of(call.waiting) else {
+        let Some(caller) = call.waiting.caller() else {
             return;
         };
         let at = caller.0 as usize;
@@ -201,7 +201,7 @@ impl<P: Drop> Seats<P> {
     {
         match self.standing(pid.0 as usize) {
             None => false,
-            Some(standing) => !is_over(standing),
+            Some(standing) => !standing.is_over(),
         }
     }
 
@@ -210,7 +210,7 @@ impl<P: Drop> Seats<P> {
         ensures { result ≡ list_all (λ seat. is_over seat.standing) self.now.items }
     {
         for seat in &self.items {
-            if !is_over(&seat.standing) {
+            if !seat.standing.is_over() {
                 return false;
             }
         }
@@ -222,7 +222,7 @@ impl<P: Drop> Seats<P> {
         ensures { result ≡ list_any (λ seat. is_running seat.standing) self.now.items }
     {
         for seat in &self.items {
-            if is_running(&seat.standing) {
+            if seat.standing.is_running() {
                 return true;
             }
         }
@@ -234,7 +234,7 @@ impl<P: Drop> Seats<P> {
         ensures { result ≡ list_any (λ seat. is_faulted seat.standing) self.now.items }
     {
         for seat in &self.items {
-            if is_faulted(&seat.standing) {
+            if seat.standing.is_faulted() {
                 return true;
             }
         }
@@ -245,47 +245,8 @@ impl<P: Drop> Seats<P> {
 fn is_ready<P>(seat: &Seat<P>) -> bool
     ensures { result ≡ is_ready seat.now }
 {
-    match &seat.place {
-        Place::Ready { .. } => true,
+    match &seat.whereabouts {
+        Whereabouts::Ready { .. } => true,
         _ => false,
-    }
-}
-
-fn is_over(standing: &ProcessStanding) -> bool
-    ensures { result ≡ is_over standing.now }
-{
-    match standing {
-        ProcessStanding::Ended => true,
-        ProcessStanding::Faulted { .. } => true,
-        _ => false,
-    }
-}
-
-fn is_running(standing: &ProcessStanding) -> bool
-    ensures { result ≡ is_running standing.now }
-{
-    match standing {
-        ProcessStanding::Running => true,
-        _ => false,
-    }
-}
-
-fn is_faulted(standing: &ProcessStanding) -> bool
-    ensures { result ≡ is_faulted standing.now }
-{
-    match standing {
-        ProcessStanding::Faulted { .. } => true,
-        _ => false,
-    }
-}
-
-// Who waits for the answer to a call.
-fn caller_of(waiting: Waiting) -> Option<Pid>
-    ensures { result ≡ caller_of waiting }
-{
-    match waiting {
-        Waiting::Nobody => None,
-        Waiting::Caller { pid } => Some(pid),
-        Waiting::Until { pid, .. } => Some(pid),
     }
 }

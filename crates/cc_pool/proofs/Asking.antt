@@ -1,10 +1,11 @@
 -- A process that is ready asks next what its program says.
 use Rattle.std.proofs.Common.{◌≡◌, ℕ, ◌⊎◌, inl, inr, sym, ap, ◌∙◌, subst, true, false, ℤ, List, [], ◌∷◌, ◌++◌, Bool}
 use Rattle.cc_base.specs.Meaning.{Meaning}
-use Rattle.cc_base.specs.Served.{AsksServed, IsServed}
+use Rattle.cc_base.specs.Supported.{AsksSupported, IsSupported}
 use Rattle.cc_base.specs.declared.request.Grant.{Grant}
 use Rattle.cc_base.specs.declared.request.Request.{Request}
-use Rattle.cc_kernel.specs.Held.{AllOut, IsOver, IsReadyWith, SomeRunning}
+use Rattle.cc_kernel.specs.Contract.{AllOut, IsReadyWith, SomeRunning}
+use Rattle.cc_rules.specs.Standing.{IsOver}
 use Rattle.cc_pool.specs.Driven.{NoneOut}
 use Rattle.cc_rules.specs.Runs.{state_after}
 use Rattle.cc_rules.specs.State.{Process, process_at}
@@ -43,5 +44,5 @@ module _ {P : Type 0} (m : Meaning) (located : P → ℕ → List ℤ → List G
   pub located-now : Went → located new q.kind q.args q.grants
   located-now went = subst (located new q.kind q.args) (sym ready.grants) went.1
 
-  pub served-now : AsksServed m → Went → IsServed request
-  served-now served went = subst IsServed (sym (asked-now went)) (served q.kind q.args q.grants ready.kind ready.proper)
+  pub supported-now : AsksSupported m → Went → IsSupported request
+  supported-now served went = subst IsSupported (sym (asked-now went)) (served q.kind q.args q.grants ready.kind ready.proper)

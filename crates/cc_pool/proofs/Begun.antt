@@ -3,9 +3,9 @@ use Rattle.std.proofs.Common.{◌≡◌, ◌≤◌, ℕ, List, [], arith, refl}
 use Rattle.cc_base.specs.Meaning.{Meaning}
 use Rattle.cc_base.specs.declared.names.FaultKind.{FaultKind}
 use Rattle.cc_base.specs.declared.names.Pid.{Pid}
-use Rattle.cc_kernel.specs.Faults.{faults_from}
-use Rattle.cc_kernel.specs.Held.{Held}
-use Rattle.cc_kernel.specs.Standing.{standing_of}
+use Rattle.cc_rules.specs.Faulted.{faults_from}
+use Rattle.cc_kernel.specs.Contract.{KernelView}
+use Rattle.cc_rules.specs.Standing.{standing_of}
 use Rattle.cc_pool.specs.Driven.{IsRunOf}
 use Rattle.cc_rules.proofs.Settled.{IsSettled-by_test}
 use Rattle.cc_rules.specs.Runs.{IsRun, IsSettledRun, state_after, turns}
@@ -25,7 +25,7 @@ empty-run m input allowed standing stands =
 
 -- what a kernel tells of its run is so of the program, the input and the turns that it was opened for
 pub kernel-run :
-    {B : Type 0} (means : B → Meaning) (k : Held B) (code : B) (input : List ℕ) (allowed : ℕ) (journal : List Event) (faults : List (Pid × FaultKind)) (standing : Standing)
+    {B : Type 0} (means : B → Meaning) (k : KernelView B) (code : B) (input : List ℕ) (allowed : ℕ) (journal : List Event) (faults : List (Pid × FaultKind)) (standing : Standing)
     → k.code ≡ code
     → k.input ≡ input
     → k.turns ≡ allowed

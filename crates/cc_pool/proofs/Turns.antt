@@ -9,6 +9,7 @@ use Rattle.cc_base.specs.declared.request.Request.{Request}
 use Rattle.cc_base.specs.declared.request.Request.TheVariants as request
 use Rattle.cc_pool.specs.Driven.{GoesOn, NoneOut, StopsAtTheSink, StopsForMemory, is_untimed}
 use Rattle.cc_rules.proofs.GoOn.{printed-append, turns-append}
+use Rattle.cc_rules.proofs.QuietEvents.{settling-prints, settling-turns}
 use Rattle.cc_rules.specs.Events.{next, request_at, word_of}
 use Rattle.cc_rules.specs.Runs.{bytes_of, is_turn, printed, printed_from, state_after, turns}
 use Rattle.cc_rules.specs.State.{State, first_state}
@@ -30,22 +31,6 @@ pub record OnItsWay (m : Meaning) (input : List ℕ) (allowed : ℕ) (journal : 
 pub turns-cons : (e : Event) (events : List Event) → turns (e ∷ events) ≡ cond (is_turn e) 1 0 + turns events
 turns-cons e events = sum_by-cons (λ x. cond (is_turn x) 1 0) e events
 
-pub no-turn : (e : Event) (events : List Event) → is_turn e ≡ true → turns (e ∷ events) ≡ 0 → ⊥
-no-turn e events is h =
-    let one : 1 + turns events ≡ 0 = ap (λ b. cond b 1 0 + turns events) (sym is) ∙ sym (turns-cons e events) ∙ h in
-    absurd (omega (arith, one))
-
--- events that are no turns print nothing
-quiet-bytes : (m : Meaning) (s : State) (events : List Event) → turns events ≡ 0 → printed_from m s events ≡ []
-quiet-bytes m s [] h = refl
-quiet-bytes m s (Ask p w ∷ events) h = absurd (no-turn (Ask p w) events refl h)
-quiet-bytes m s (Accept p i c ∷ events) h = quiet-bytes m (next m s (Accept p i c)) events h
-quiet-bytes m s (Instant p i ∷ events) h = quiet-bytes m (next m s (Instant p i)) events h
-quiet-bytes m s (Expire p i ∷ events) h = quiet-bytes m (next m s (Expire p i)) events h
-quiet-bytes m s (Withdraw c ∷ events) h = quiet-bytes m (next m s (Withdraw c)) events h
-quiet-bytes m s (Time t ∷ events) h = absurd (no-turn (Time t) events refl h)
-quiet-bytes m s (End ∷ events) h = quiet-bytes m (next m s End) events h
-
 module _ (m : Meaning) (input : List ℕ) (before journal : List Event) (bytes : List ℕ) (went : GoesOn m input before journal bytes) where
   -- the run printed these bytes more
   pub prints-on : printed m input journal ≡ printed m input before ++ bytes
@@ -54,7 +39,7 @@ module _ (m : Meaning) (input : List ℕ) (before journal : List Event) (bytes :
       let ask = Ask went.pid (word_of (request_at m s went.pid)) in
       ap (printed m input) went.events
       ∙ printed-append m (first_state input) before (ask ∷ went.settling)
-      ∙ ap (λ bs. printed m input before ++ (bytes_of (request_at m s went.pid) ++ bs)) (quiet-bytes m (next m s ask) went.settling went.quiet)
+      ∙ ap (λ bs. printed m input before ++ (bytes_of (request_at m s went.pid) ++ bs)) (settling-prints m (next m s ask) went.settling went.settles)
       ∙ ap (λ bs. printed m input before ++ bs) (append-nil (bytes_of (request_at m s went.pid)) ∙ sym went.prints)
 
   -- and took one turn more
@@ -64,7 +49,7 @@ module _ (m : Meaning) (input : List ℕ) (before journal : List Event) (bytes :
       let ask = Ask went.pid (word_of (request_at m s went.pid)) in
       let both = ap turns went.events ∙ turns-append before (ask ∷ went.settling) in
       let one = turns-cons ask went.settling in
-      omega (arith, both, one, went.quiet)
+      omega (arith, both, one, settling-turns went.settling went.settles)
 
 -- a request that prints something is a Print
 print-word : (r : Request) (n : ℕ) → n < length (bytes_of r) → word_of r ≡ word.Print
@@ -125,7 +110,7 @@ sink-stops m input before journal held mid now bytes grew went part =
             last_turn =
                 went.events
                 ∙ ap (λ w. before ++ Ask went.pid w ∷ went.settling) (print-word (request_at m (state_after m input before) went.pid) part.count short);
-            no_turn = went.quiet;
+            settles = went.settles;
             count = part.count;
             proper = short;
             parts = ap (λ bs. printed m input before ++ take part.count bs) went.prints;
@@ -133,7 +118,7 @@ sink-stops m input before journal held mid now bytes grew went part =
       prints = part.held ∙ ap (λ known. with_bytes known (take part.count bytes)) grew ∙ grown_twice held (printed m input before) (take part.count bytes);
     }
 
--- memory is wanting as the bytes of its last turn are put
+-- out of memory as the bytes of its last turn are put
 pub memory-stops :
     (m : Meaning) (input : List ℕ) (before journal : List Event) (held mid now : Option (List ℕ)) (bytes : List ℕ)
     → GrewBy held mid (printed m input before)
@@ -153,7 +138,7 @@ memory-stops m input before journal held mid now bytes grew went part =
           ∙ ap (with_bytes held) (sym (ap (take (length first + part.count)) all ∙ take-append-add first bytes part.count));
     }
 
--- memory is wanting between two turns
+-- out of memory between two turns
 pub memory-stops_between :
     (m : Meaning) (input : List ℕ) (before journal : List Event) (held mid now : Option (List ℕ))
     → GrewBy held mid (printed m input before)

@@ -1,24 +1,24 @@
 -- A run whose last turn is the Ask of a Print is not complete: who asked is running.
-use Rattle.std.proofs.Common.{◌≡◌, ℕ, ◌<◌, Bool, true, false, ◌&&◌, List, [], ◌∷◌, length, refl, sym, ap, ◌∙◌, subst, arith}
+use Rattle.std.proofs.Common.{◌≡◌, ℕ, ◌<◌, Bool, true, false, ◌&&◌, not, List, [], ◌∷◌, length, refl, sym, ap, ◌∙◌, subst, arith}
 use Rattle.std.specs.Prelude.{if◌then◌else◌}
 use Rattle.std.specs.List.{AllPass}
 use Rattle.std.proofs.lemmas.List.Folds.{list_all_at}
-use Rattle.std.proofs.lemmas.List.Elements.{All-append, All-cons, All-nil}
+use Rattle.std.proofs.lemmas.List.Elements.{All-append, All-cons, All-weaker}
 use Rattle.cc_base.specs.Meaning.{Meaning}
 use Rattle.cc_base.specs.declared.names.Pid.{Pid}
 use Rattle.cc_base.specs.declared.request.Request.{Request}
 use Rattle.cc_base.specs.declared.request.Request.TheVariants as request
 use Rattle.cc_base.specs.declared.request.Grant.TheVariants.{Go}
-use Rattle.cc_pool.proofs.Turns.{no-turn, turns-cons}
 use Rattle.cc_pool.specs.Driven.{GoesOn, is_untimed}
 use Rattle.cc_rules.proofs.EndIsLast.{run-at}
 use Rattle.cc_rules.proofs.GoOn.{after-append}
 use Rattle.cc_rules.proofs.Held.{at-same}
-use Rattle.cc_rules.proofs.NextStays.{running-within, same-running}
+use Rattle.cc_rules.proofs.NextStays.{running-within}
+use Rattle.cc_rules.proofs.QuietEvents.{settling-no_time, settling-stays}
 use Rattle.cc_rules.specs.Effects.{effect, granted}
 use Rattle.cc_rules.specs.Ends.{is_complete, is_due}
 use Rattle.cc_rules.specs.Events.{is_legal, next, request_at, same_word, word_of}
-use Rattle.cc_rules.specs.Runs.{IsRun, IsRunFrom, after, bytes_of, is_turn, state_after, turns}
+use Rattle.cc_rules.specs.Runs.{IsRun, IsRunFrom, after, bytes_of, is_settling, state_after}
 use Rattle.cc_rules.specs.State.{State, first_state, is_over, is_running, nobody, process_at}
 use Rattle.cc_rules.specs.Stops.{StopsInPrint}
 use Rattle.cc_rules.specs.declared.event.Event.{Event}
@@ -27,21 +27,6 @@ use Rattle.cc_rules.specs.declared.event.Word.{Word}
 use Rattle.cc_rules.specs.declared.event.Word.TheVariants as word
 use Rattle.cc_rules.specs.declared.process.ProcessStanding.{ProcessStanding}
 use Rattle.cc_rules.specs.declared.process.ProcessStanding.TheVariants.{Running, AtSelect, AtDelay, AtCall, Ended, Faulted}
-
-turns-rest : (e : Event) (events : List Event) → turns (e ∷ events) ≡ 0 → turns events ≡ 0
-turns-rest e events h = let cons = turns-cons e events in omega (arith, h, cons)
-
--- what is running is running after events that are no turns
-still-running :
-    (m : Meaning) (s : State) (p : Pid) (events : List Event)
-    → turns events ≡ 0
-    → IsRunFrom m s events
-    → is_running (process_at s.processes p.0).standing ≡ true
-    → is_running (process_at (after m s events).processes p.0).standing ≡ true
-still-running m s p [] quiet run r = r
-still-running m s p (e ∷ events) quiet run r =
-    let same = same-running m s e p run.0 (λ w is. no-turn e events (ap is_turn is) quiet) r in
-    still-running m (next m s e) p events (turns-rest e events quiet) run.1 (ap (λ q. is_running q.standing) same ∙ r)
 
 asker-if : (due running same : Bool) → (if due then false else running && same) ≡ true → running ≡ true
 asker-if true running same h = cc
@@ -97,23 +82,14 @@ print-incomplete m input events part run stops =
     let here = run-at m (first_state input) stops.before ask stops.settling (subst (IsRunFrom m (first_state input)) stops.last_turn run) in
     let asks = asker-running m s stops.pid word.Print here.0 in
     let goes = printer-running m s stops.pid (request_at m s stops.pid) stops.count stops.proper asks in
-    let runs = still-running m (next m s ask) stops.pid stops.settling stops.no_turn here.1 goes in
+    let stays = settling-stays m (next m s ask) stops.settling stops.pid stops.settles here.1 goes in
+    let runs : is_running (process_at (after m (next m s ask) stops.settling).processes stops.pid.0).standing ≡ true = ap (λ q. is_running q.standing) stays ∙ goes in
     let there : state_after m input events ≡ after m (next m s ask) stops.settling = ap (state_after m input) stops.last_turn ∙ after-append m (first_state input) stops.before (ask ∷ stops.settling) in
     ap is_complete there ∙ running-incomplete (after m (next m s ask) stops.settling) stops.pid.0 runs
 
--- events that are no turns are no Time
-quiet-untimed : (events : List Event) → turns events ≡ 0 → AllPass is_untimed events
-quiet-untimed [] h = All-nil (λ e. is_untimed e ≡ true)
-quiet-untimed (e ∷ events) h = All-cons (λ x. is_untimed x ≡ true) e events (own e (λ is. no-turn e events is h)) (quiet-untimed events (turns-rest e events h))
-  where
-    own : (x : Event) → (is_turn x ≡ true → ⊥) → is_untimed x ≡ true
-    own (Ask p w) never = refl
-    own (Accept p i c) never = refl
-    own (Instant p i) never = refl
-    own (Expire p i) never = refl
-    own (Withdraw c) never = refl
-    own (Time t) never = absurd (never refl)
-    own End never = refl
+-- events by which the machine settles are no Time
+settling-untimed : (events : List Event) → AllPass is_settling events → AllPass is_untimed events
+settling-untimed events h = All-weaker (λ e. is_settling e ≡ true) (λ e. is_untimed e ≡ true) (λ e is. ap not (settling-no_time e is)) events h
 
 -- a run that goes on stays without a Time
 pub untimed-on :
@@ -125,4 +101,4 @@ untimed-on m input before journal bytes went untimed =
     let ask = Ask went.pid (word_of (request_at m (state_after m input before) went.pid)) in
     subst (AllPass is_untimed) (sym went.events)
     (All-append (λ e. is_untimed e ≡ true) before (ask ∷ went.settling) untimed
-    (All-cons (λ e. is_untimed e ≡ true) ask went.settling refl (quiet-untimed went.settling went.quiet)))
+    (All-cons (λ e. is_untimed e ≡ true) ask went.settling refl (settling-untimed went.settling went.settles)))

@@ -1,14 +1,14 @@
 -- What a run leaves that was driven as far as it went.
 use Rattle.std.specs.Prelude.{◌≡◌, ◌≢◌, ◌≤◌, ℕ, Bool, false, not, List, ◌∷◌, ◌++◌, Option}
+use Rattle.std.specs.List.{AllPass}
 use Rattle.cc_base.specs.Meaning.{Meaning}
 use Rattle.cc_base.specs.declared.names.FaultKind.{FaultKind}
 use Rattle.cc_base.specs.declared.names.Pid.{Pid}
-use Rattle.cc_kernel.specs.Faults.{faults_from}
-use Rattle.cc_kernel.specs.Held.{IsOver}
-use Rattle.cc_kernel.specs.Seats.{is_out_in}
-use Rattle.cc_kernel.specs.Standing.{standing_of}
+use Rattle.cc_rules.specs.Faulted.{faults_from}
+use Rattle.cc_rules.specs.Standing.{IsOver, standing_of}
+use Rattle.cc_kernel.specs.Contract.{is_out_in}
 use Rattle.cc_rules.specs.Events.{is_time, request_at, word_of}
-use Rattle.cc_rules.specs.Runs.{IsRun, IsSettledRun, bytes_of, printed, state_after, turns}
+use Rattle.cc_rules.specs.Runs.{IsRun, IsSettledRun, bytes_of, is_settling, printed, state_after, turns}
 use Rattle.cc_rules.specs.Stops.{StopsInPrint}
 use Rattle.cc_rules.specs.declared.event.Event.{Event}
 use Rattle.cc_rules.specs.declared.event.Event.TheVariants.{Ask}
@@ -48,12 +48,12 @@ is_untimed event = not (is_time event)
 abbrev pub NoneOut : List Bool → Type 0
 NoneOut outs = (p : ℕ) → is_out_in outs p ≡ false
 
--- the run went on with the request of one process, which prints these bytes, and with what settles the machine
+-- the run went on with the request of one process, which prints these bytes, and then with events by which the machine settles
 pub record GoesOn (m : Meaning) (input : List ℕ) (before journal : List Event) (bytes : List ℕ) : Type 0 where
   pub pid : Pid
   pub settling : List Event
   pub events : journal ≡ before ++ Ask pid (word_of (request_at m (state_after m input before) pid)) ∷ settling
-  pub quiet : turns settling ≡ 0
+  pub settles : AllPass is_settling settling
   pub prints : bytes ≡ bytes_of (request_at m (state_after m input before) pid)
 
 -- no other process is out

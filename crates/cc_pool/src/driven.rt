@@ -7,7 +7,7 @@ pub enum Stop {
     Over,
     /// The sink failed.
     Write,
-    /// Memory was wanting.
+    /// It was out of memory.
     Memory,
 }
 

@@ -111,7 +111,7 @@ module _
       }
 
 -- the meaning is one with other requests alone
-alike-is : (m n : Meaning) → AreAlike m n → with_act m n.act ≡ n
+pub alike-is : (m n : Meaning) → AreAlike m n → with_act m n.act ≡ n
 alike-is m n h =
     ap (λ kinds. record m { kinds = kinds; act = n.act }) (sym h.same_kinds)
     ∙ ap (λ shapes. record m { kinds = n.kinds; shapes = shapes; act = n.act }) (sym h.same_shapes)

@@ -27,7 +27,3 @@ or-right false b h = h
 pub or-false : (b : Bool) → (b || false) ≡ true → b ≡ true
 or-false true h = refl
 or-false false h = cc
-
-pub implies : (a b : Bool) → (not a || b) ≡ true → a ≡ true → b ≡ true
-implies true b h k = h
-implies false b h k = cc

@@ -3,6 +3,7 @@ pub mod Places
 pub mod GoOn
 pub mod Stays
 pub mod NextStays
+pub mod QuietEvents
 pub mod Proper
 pub mod Held
 pub mod Answered
@@ -18,12 +19,10 @@ pub mod CollectiveEnd
 pub mod SoundEffect
 pub mod SoundRun
 pub mod Settled
-pub mod Calm
 pub mod TakenOnce
 pub mod EndIsLast
 pub mod ChosenCalls
 pub mod Unsettled
-pub mod Scripted
-pub mod WorkedWell
 pub mod AlikeRuns
+pub mod BothWays
 pub mod Final

@@ -10,7 +10,7 @@ push-not-nil [] g e = cc
 push-not-nil (x ∷ gs) g e = cc
 
 module _ (m : Meaning) (kind : ℕ) (args : List ℤ) where
-  IsProperAfter-push :
+  pub IsProperAfter-push :
       (before gs : List Grant) (g : Grant)
       → IsProperAfter m kind args before gs
       → IsNext m kind args (before ++ gs) g

@@ -18,7 +18,8 @@ use Rattle.cc_rules.proofs.Own.{AreRising, Held-from_sound, Sound-from_held, Sou
 use Rattle.cc_rules.proofs.Proper.{push-not-nil}
 use Rattle.cc_rules.proofs.Replied.{Sound-replied}
 use Rattle.cc_rules.proofs.Stays.{AllStay-own, AllStay-push}
-use Rattle.cc_rules.specs.Effects.{called, deadline_after, effect, ended, first_byte, grant_to, granted, is_there, most_processes, rest_of, with_standing}
+use Rattle.cc_base.specs.Limits.{most_processes}
+use Rattle.cc_rules.specs.Effects.{called, deadline_after, effect, ended, first_byte, grant_to, granted, is_there, rest_of, with_standing}
 use Rattle.cc_base.specs.Grants.{Answers, argument_cells}
 use Rattle.cc_base.specs.Requests.{IsRequestOf}
 use Rattle.cc_rules.specs.Sound.{asks, is_call, IsAskedBy, Sound, SoundProcess}

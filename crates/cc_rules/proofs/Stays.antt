@@ -12,7 +12,8 @@ use Rattle.cc_base.specs.declared.request.Grant.TheVariants.{Go, Made, Value, Go
 use Rattle.cc_base.specs.declared.request.Request.{Request}
 use Rattle.cc_base.specs.declared.request.Request.TheVariants.{Pause, Create, Call, TimedCall, Send, Select, Delay, Reply, Print, Get, Done, Fault}
 use Rattle.cc_base.specs.Grants.{value_cells}
-use Rattle.cc_rules.specs.Effects.{most_processes, granted, grant_to, with_standing, waits_for, caller_of, answered, each_gets_gone, is_for, ended, called, is_there, of_cells, without_innermost, effect, first_byte, deadline_after}
+use Rattle.cc_base.specs.Limits.{most_processes}
+use Rattle.cc_rules.specs.Effects.{granted, grant_to, with_standing, waits_for, caller_of, answered, each_gets_gone, is_for, ended, called, is_there, of_cells, without_innermost, effect, first_byte, deadline_after}
 use Rattle.cc_rules.specs.State.{Process, State, made, nobody, process_at, is_over, is_running}
 use Rattle.cc_rules.specs.declared.process.ProcessStanding.{ProcessStanding}
 use Rattle.cc_rules.specs.declared.process.ProcessStanding.TheVariants.{Running, AtSelect, AtDelay, AtCall, Ended, Faulted}

@@ -16,7 +16,8 @@ use Rattle.cc_rules.proofs.Filtered.{Contains-filter, filter-passes}
 use Rattle.cc_rules.proofs.Held.{Contains-nil}
 use Rattle.cc_rules.proofs.Taken.{find-contained}
 use Rattle.cc_rules.specs.Choice.{accepts, call_numbered, may_withdraw}
-use Rattle.cc_rules.specs.Effects.{called, deadline_after, effect, ended, grant_to, is_for, is_there, most_processes, with_standing}
+use Rattle.cc_base.specs.Limits.{most_processes}
+use Rattle.cc_rules.specs.Effects.{called, deadline_after, effect, ended, grant_to, is_for, is_there, with_standing}
 use Rattle.cc_rules.specs.Ends.{is_due}
 use Rattle.cc_rules.specs.Events.{accepted, is_allowed, is_end, next, outcome, request_at, withdrawn, without_call}
 use Rattle.cc_rules.specs.Runs.{IsRun, IsRunFrom, takes_call}

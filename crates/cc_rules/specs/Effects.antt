@@ -2,6 +2,7 @@
 use Rattle.std.specs.Prelude.{ℕ, ℤ, pos, negsuc, ◌+◌, ◌-◌, ◌^◌, min, Bool, false, not, if◌then◌else◌, List, [], ◌∷◌, ◌++◌, length, take, set, replicate, slice_get, filter, Option, Some, None, nat_eq, nat_lt}
 use Rattle.std.specs.Option.{option_map_or}
 use Rattle.cc_base.specs.Grants.{value_cells}
+use Rattle.cc_base.specs.Limits.{most_processes}
 use Rattle.cc_base.specs.Meaning.{Meaning}
 use Rattle.cc_base.specs.declared.names.FaultKind.TheVariants.{TooMany}
 use Rattle.cc_base.specs.declared.names.Pid.{Pid}
@@ -15,10 +16,6 @@ use Rattle.cc_rules.specs.declared.process.ProcessStanding.{ProcessStanding}
 use Rattle.cc_rules.specs.declared.process.ProcessStanding.TheVariants.{Running, AtSelect, AtDelay, AtCall, Ended, Faulted}
 use Rattle.cc_rules.specs.declared.process.Waiting.{Waiting}
 use Rattle.cc_rules.specs.declared.process.Waiting.TheVariants.{Nobody, Caller, Until}
-
--- the most processes that are made, `main` among them
-abbrev pub most_processes : ℕ
-most_processes = 4096
 
 -- a process goes on with this grant
 abbrev pub granted : Process → Grant → Process

@@ -39,7 +39,7 @@ is_turn End = false
 abbrev pub turns : List Event → ℕ
 turns events = count_by is_turn events
 
--- an event by which the machine settles: it is decided without a process or the clock
+-- an event by which the machine settles: Accept, Instant, Expire, Withdraw or End
 abbrev pub is_settling : Event → Bool
 is_settling (Ask p w) = false
 is_settling (Accept p i c) = true
@@ -53,10 +53,11 @@ is_settling End = true
 abbrev pub IsSettled : Meaning → State → Type 0
 IsSettled m s = (event : Event) → is_settling event ≡ true → is_legal m s event ≡ false
 
--- the state is settled before each turn, and at the end
+-- the state is settled before each event that isn't a settling one, and at the end
 abbrev pub IsSettledFrom : Meaning → State → List Event → Type 0
 IsSettledFrom m s [] = IsSettled m s
-IsSettledFrom m s (event ∷ events) = (is_turn event ≡ true → IsSettled m s) × IsSettledFrom m (next m s event) events
+IsSettledFrom m s (event ∷ events) =
+    (is_settling event ≡ false → IsSettled m s) × IsSettledFrom m (next m s event) events
 
 -- the run is settled
 abbrev pub IsSettledRun : Meaning → List ℕ → List Event → Type 0

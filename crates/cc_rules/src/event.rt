@@ -1,4 +1,7 @@
-use cc_base::{CallId, Pid};
+ghost use Rattle.std.specs.Prelude.{◌≡◌};
+ghost use Rattle.cc_rules.specs.Events.{word_of};
+
+use cc_base::{CallId, Pid, Request};
 
 /// The kind of a request, as the journal names it.
 #[derive(Clone, Copy, Debug, Drop, PartialEq, Eq)]
@@ -15,6 +18,28 @@ pub enum Word {
     Get,
     Done,
     Fault,
+}
+
+impl Word {
+    /// The word that names the request.
+    pub fn of(request: &Request) -> Word
+        ensures word { result ≡ word_of request.now }
+    {
+        match request {
+            Request::Pause => Word::Pause,
+            Request::Create { .. } => Word::Create,
+            Request::Call { .. } => Word::Call,
+            Request::TimedCall { .. } => Word::TimedCall,
+            Request::Send { .. } => Word::Send,
+            Request::Select { .. } => Word::Select,
+            Request::Delay { .. } => Word::Delay,
+            Request::Reply { .. } => Word::Reply,
+            Request::Print { .. } => Word::Print,
+            Request::Get => Word::Get,
+            Request::Done => Word::Done,
+            Request::Fault { .. } => Word::Fault,
+        }
+    }
 }
 
 /// An event of the machine. A run is a list of events, each legal in its turn.

@@ -43,7 +43,7 @@ impl Faults {
 
     /// The process and its fault at this index, from 0; none exactly past the end.
     pub fn get(&self, at: usize) -> Option<&(Pid, FaultKind)>
-        ensures { MatchOption result (slice_get self.now.items at ≡ None) (λ f. slice_get self.now.items at ≡ Some f.now) }
+        ensures item { MatchOption result (slice_get self.now.items at ≡ None) (λ f. slice_get self.now.items at ≡ Some f.now) }
     {
         self.items.get(at)
     }

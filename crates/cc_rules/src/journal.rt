@@ -32,14 +32,14 @@ impl Journal {
     }
 
     pub fn len(&self) -> usize
-        ensures { result ≡ length self.now.items }
+        ensures len { result ≡ length self.now.items }
     {
         self.items.len()
     }
 
     /// The event at this index, from 0; none exactly past the end.
     pub fn get(&self, at: usize) -> Option<&Event>
-        ensures { MatchOption result (slice_get self.now.items at ≡ None) (λ e. slice_get self.now.items at ≡ Some e.now) }
+        ensures item { MatchOption result (slice_get self.now.items at ≡ None) (λ e. slice_get self.now.items at ≡ Some e.now) }
     {
         self.items.get(at)
     }

@@ -3,7 +3,7 @@ use Rattle.std.specs.Prelude.{All}
 use Rattle.cc_base.specs.declared.names.FaultKind.{FaultKind}
 use Rattle.cc_base.specs.declared.names.Pid.{Pid}
 use Rattle.cc_kernel.proofs.Listed.{below-taken, more-faults-here}
-use Rattle.cc_kernel.specs.Faults.{fault_of}
+use Rattle.cc_rules.specs.Faulted.{fault_of}
 use Rattle.cc_kernel.specs.Seats.{seat_at}
 use Rattle.cc_kernel.proofs.faults.list_faults.Goals as goal
 

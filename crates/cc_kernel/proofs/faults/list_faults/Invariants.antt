@@ -1,6 +1,6 @@
 use Rattle.std.proofs.Common.{◌≡◌, ◌+◌, ◌≤◌, take}
-use Rattle.cc_kernel.specs.Faults.{seat_faults}
-use Rattle.cc_rules.specs.Effects.{most_processes}
+use Rattle.cc_kernel.specs.Seats.{seat_faults}
+use Rattle.cc_base.specs.Limits.{most_processes}
 use Rattle.cc_kernel.proofs.faults.list_faults.Given as goal
 
 abbrev pub invariant-loop-at : goal.invariant-loop-at

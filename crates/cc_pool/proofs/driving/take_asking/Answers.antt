@@ -1,4 +1,4 @@
-use Rattle.cc_pool.proofs.Asking.{asked-now, located-now, none-waits, served-now}
+use Rattle.cc_pool.proofs.Asking.{asked-now, located-now, none-waits, supported-now}
 use Rattle.cc_pool.proofs.driving.take_asking.Goals as goal
 
 pub unreachable-requires : goal.unreachable-requires
@@ -17,11 +17,11 @@ prepare-requires-clause-asks g c =
           (c.in_ok-request.ensures k.code _ _ c.in-Some.ensures.ready.front c.in-Some.ensures.ready.there c.in-Some.ensures.ready.is_next)),
     )
 
-pub prepare-requires-clause-served : goal.prepare-requires-clause-served
-prepare-requires-clause-served g c =
+pub prepare-requires-clause-supported : goal.prepare-requires-clause-supported
+prepare-requires-clause-supported g c =
     let k = c.args.kernel.now in
-    served-now (g.B.Behave.means k.code) (g.B.Behave.at k.code) k.input k.journal c.in-Some.pid.0 c.in-Some.process c.go.new.this c.in-Some.grant c.in_ok-request.request
-    c.in-Some.ensures.ready c.requires.served
+    supported-now (g.B.Behave.means k.code) (g.B.Behave.at k.code) k.input k.journal c.in-Some.pid.0 c.in-Some.process c.go.new.this c.in-Some.grant c.in_ok-request.request
+    c.in-Some.ensures.ready c.requires.supported
     (c.in_ok-request.ensures k.code _ _ c.in-Some.ensures.ready.front c.in-Some.ensures.ready.there c.in-Some.ensures.ready.is_next)
 
 pub returns-clause-out : goal.returns-clause-out
@@ -33,9 +33,9 @@ returns-clause-out g c =
           (c.in_ok-request.ensures k.code _ _ c.in-Some.ensures.ready.front c.in-Some.ensures.ready.there c.in-Some.ensures.ready.is_next),
     )
 
-pub returns-clause-served : goal.returns-clause-served
-returns-clause-served g c =
+pub returns-clause-supported : goal.returns-clause-supported
+returns-clause-supported g c =
     let k = c.args.kernel.now in
-    served-now (g.B.Behave.means k.code) (g.B.Behave.at k.code) k.input k.journal c.in-Some.pid.0 c.in-Some.process c.go.new.this c.in-Some.grant c.in_ok-request.request
-    c.in-Some.ensures.ready c.requires.served
+    supported-now (g.B.Behave.means k.code) (g.B.Behave.at k.code) k.input k.journal c.in-Some.pid.0 c.in-Some.process c.go.new.this c.in-Some.grant c.in_ok-request.request
+    c.in-Some.ensures.ready c.requires.supported
     (c.in_ok-request.ensures k.code _ _ c.in-Some.ensures.ready.front c.in-Some.ensures.ready.there c.in-Some.ensures.ready.is_next)

@@ -5,24 +5,24 @@ use Rattle.cc_kernel.proofs.Others.{others-stay, outs-run, prints-more, steps-on
 use Rattle.cc_kernel.proofs.Outs.{out-at}
 use Rattle.cc_kernel.proofs.Seated.{Seated-at, out-running}
 use Rattle.cc_kernel.proofs.Stands.{below-allowed, going-left}
-use Rattle.cc_kernel.specs.Kept.{parts}
+use Rattle.cc_kernel.specs.Store.{contents}
 use Rattle.cc_kernel.specs.Seats.{seat_at}
 use Rattle.cc_rules.specs.Runs.{IsRun, state_after, turns}
 use Rattle.cc_rules.specs.State.{process_at}
 use Rattle.cc_kernel.proofs.kernel.Kernel.commit.Goals as goal
 
-pub serve-bytes-requires-clause-ready : goal.serve-bytes-requires-clause-ready
-serve-bytes-requires-clause-ready g c =
+pub perform-bytes-requires-clause-ready : goal.perform-bytes-requires-clause-ready
+perform-bytes-requires-clause-ready g c =
     (c.self.inside.journal.spare, rw (c.deref.ensures, c.replace-need.ensures.value) c.self.invariant.ready)
 
-pub serve-bytes-requires-clause-known : goal.serve-bytes-requires-clause-known
-serve-bytes-requires-clause-known g c =
+pub perform-bytes-requires-clause-known : goal.perform-bytes-requires-clause-known
+perform-bytes-requires-clause-known g c =
     let k = c.self.inside in
     rw c.deref.ensures
     (all-served (λ call. call.trans < length (g.B.Behave.means k.code.value).shapes) (g.B.Behave.at k.code.value)
-    (state_after (g.B.Behave.means k.code.value) k.kept.input k.journal.items) (parts k.kept) c.self.invariant.state
+    (state_after (g.B.Behave.means k.code.value) k.store.input k.journal.items) (contents k.store) c.self.invariant.state
     (known-served (g.B.Behave.means k.code.value)
-    (g.met.B.Behave.well_formed k.code.value) k.kept.input k.journal.items c.self.invariant.runs))
+    (g.met.B.Behave.well_formed k.code.value) k.store.input k.journal.items c.self.invariant.runs))
 
 pub invariant_of-self : goal.invariant_of-self
 invariant_of-self g c =
@@ -31,28 +31,28 @@ invariant_of-self g c =
     let out = rw (← c.self.view_is) at c.requires.out in
     let asks = rw (← c.self.view_is) at c.requires.asks in
     let going = rw (← c.self.view_is) at c.requires.going in
-    let there = out-at k.kept.seats.items c.args.pid.0 out.0 in
+    let there = out-at k.store.seats.items c.args.pid.0 out.0 in
     let running =
     out-running (g.B.Behave.at k.code.value)
-    (process_at (state_after (g.B.Behave.means k.code.value) k.kept.input k.journal.items).processes c.args.pid.0)
-    (seat_at k.kept.seats.items c.args.pid.0)
-    (Seated-at (g.B.Behave.at k.code.value) (state_after (g.B.Behave.means k.code.value) k.kept.input k.journal.items).processes k.kept.seats.items c.args.pid.0 there.0 inv.state.seated)
+    (process_at (state_after (g.B.Behave.means k.code.value) k.store.input k.journal.items).processes c.args.pid.0)
+    (seat_at k.store.seats.items c.args.pid.0)
+    (Seated-at (g.B.Behave.at k.code.value) (state_after (g.B.Behave.means k.code.value) k.store.input k.journal.items).processes k.store.seats.items c.args.pid.0 there.0 inv.state.seated)
     there.1 in
     let left =
     below-allowed k.spent (turns k.journal.items) k.turns inv.spent_turns inv.within
-    (going-left (g.B.Behave.at k.code.value) (g.B.Behave.means k.code.value) (state_after (g.B.Behave.means k.code.value) k.kept.input k.journal.items) (parts k.kept)
+    (going-left (g.B.Behave.at k.code.value) (g.B.Behave.means k.code.value) (state_after (g.B.Behave.means k.code.value) k.store.input k.journal.items) (contents k.store)
     (turns k.journal.items) k.turns inv.state inv.quiet going) in
-    let served = rw c.deref.ensures at c.serve-bytes.ensures.state in
-    let settles = rw (c.deref-2.ensures, c.add.ensures.items, c.word-word.ensures) at c.settle.ensures.settles in
+    let served = rw c.deref.ensures at c.perform-bytes.ensures.state in
+    let settles = rw (c.deref-2.ensures, c.add.ensures.items, c.of-word.ensures.word) at c.settle.ensures.settles in
     rw c.replace-need.ensures.after
     (kept-commit (g.B.Behave.means k.code.value) (g.B.Behave.at k.code.value)
     k.turns k.spent k.journal.items c.settle.new.journal.items k.journal.spare c.settle.new.journal.spare
-    k.kept c.serve-bytes.new.kept c.settle.new.kept k.need k.faults c.args.pid c.args.request
+    k.store c.perform-bytes.new.store c.settle.new.store k.need k.faults c.args.pid c.args.request
     inv running asks left
-    c.serve-bytes.ensures.drawn
+    c.perform-bytes.ensures.drawn
     c.settle.ensures.drawn
-    (c.settle.ensures.input ∙ c.serve-bytes.ensures.input)
-    (served (state_after (g.B.Behave.means k.code.value) k.kept.input k.journal.items) inv.state out.1)
+    (c.settle.ensures.input ∙ c.perform-bytes.ensures.input)
+    (served (state_after (g.B.Behave.means k.code.value) k.store.input k.journal.items) inv.state out.1)
     settles)
 
 pub returns-clause-runs : goal.returns-clause-runs
@@ -63,8 +63,8 @@ returns-clause-settled g c = (invariant_of-self g c).settled
 
 pub returns-clause-within : goal.returns-clause-within
 returns-clause-within g c =
-    let kept = invariant_of-self g c in
-    omega (arith, kept.spent_turns, kept.within)
+    let store = invariant_of-self g c in
+    omega (arith, store.spent_turns, store.within)
 
 -- the journal goes on with what is asked
 pub returns-clause-steps : goal.returns-clause-steps
@@ -72,13 +72,13 @@ returns-clause-steps g c =
     let k = c.self.inside in
     let m = g.B.Behave.means k.code.value in
     let located = g.B.Behave.at k.code.value in
-    let s = state_after m k.kept.input k.journal.items in
+    let s = state_after m k.store.input k.journal.items in
     let out = rw (← c.self.view_is) at c.requires.out in
     let asks = rw (← c.self.view_is) at c.requires.asks in
-    let served = rw c.deref.ensures at c.serve-bytes.ensures.state in
-    let settles = rw (c.deref-2.ensures, c.add.ensures.items, c.word-word.ensures) at c.settle.ensures.settles in
+    let served = rw c.deref.ensures at c.perform-bytes.ensures.state in
+    let settles = rw (c.deref-2.ensures, c.add.ensures.items, c.of-word.ensures.word) at c.settle.ensures.settles in
     rw (← c.self.view_is)
-    (steps-on m located s k.journal.items c.settle.new.journal.items (parts c.serve-bytes.new.kept) (parts c.settle.new.kept) c.args.pid c.args.request
+    (steps-on m located s k.journal.items c.settle.new.journal.items (contents c.perform-bytes.new.store) (contents c.settle.new.store) c.args.pid c.args.request
     asks (served s c.self.invariant.state out.1) settles)
 
 pub returns-clause-printed : goal.returns-clause-printed
@@ -87,8 +87,8 @@ returns-clause-printed g c =
     let m = g.B.Behave.means k.code.value in
     let steps = rw (← c.self.view_is) at (returns-clause-steps g c) in
     let asks = rw (← c.self.view_is) at c.requires.asks in
-    rw (← c.self.view_is, c.settle.ensures.input, c.serve-bytes.ensures.input)
-    (prints-more m k.kept.input k.journal.items c.settle.new.journal.items c.args.pid c.args.request steps asks)
+    rw (← c.self.view_is, c.settle.ensures.input, c.perform-bytes.ensures.input)
+    (prints-more m k.store.input k.journal.items c.settle.new.journal.items c.args.pid c.args.request steps asks)
 
 pub returns-clause-others : goal.returns-clause-others
 returns-clause-others g c q other out =
@@ -97,9 +97,9 @@ returns-clause-others g c q other out =
     let inv = c.self.invariant in
     let steps = rw (← c.self.view_is) at (returns-clause-steps g c) in
     let there = rw (← c.self.view_is) at out in
-    let same = c.settle.ensures.input ∙ c.serve-bytes.ensures.input in
+    let same = c.settle.ensures.input ∙ c.perform-bytes.ensures.input in
     let F : List ℕ → Type 0 = λ input. IsRun m input c.settle.new.journal.items in
     let runs = subst F same (invariant_of-self g c).runs in
     rw (← c.self.view_is, same)
-    (others-stay m k.kept.input k.journal.items c.settle.new.journal.items c.args.pid q c.args.request steps runs other
-    (outs-run (g.B.Behave.at k.code.value) (state_after m k.kept.input k.journal.items).processes k.kept.seats.items inv.state.seated q.0 there))
+    (others-stay m k.store.input k.journal.items c.settle.new.journal.items c.args.pid q c.args.request steps runs other
+    (outs-run (g.B.Behave.at k.code.value) (state_after m k.store.input k.journal.items).processes k.store.seats.items inv.state.seated q.0 there))

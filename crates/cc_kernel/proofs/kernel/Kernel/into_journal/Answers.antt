@@ -9,5 +9,5 @@ returns-clause-faults g c =
     rw (← c.self.view_is)
     (c.list_faults.ensures
     ∙ sym
-    (faults-same (g.B.Behave.at k.code.value) 0 (state_after (g.B.Behave.means k.code.value) k.kept.input k.journal.items).processes
-    k.kept.seats.items c.self.invariant.state.seated))
+    (faults-same (g.B.Behave.at k.code.value) 0 (state_after (g.B.Behave.means k.code.value) k.store.input k.journal.items).processes
+    k.store.seats.items c.self.invariant.state.seated))

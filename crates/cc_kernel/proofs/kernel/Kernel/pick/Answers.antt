@@ -5,9 +5,9 @@ use Rattle.cc_kernel.proofs.Known.{ready-next}
 use Rattle.cc_kernel.proofs.Outs.{in-at, out-set}
 use Rattle.cc_kernel.proofs.Seated.{all-out}
 use Rattle.cc_kernel.proofs.Stands.{other-count, running-goes}
-use Rattle.cc_kernel.specs.Held.{prepared_for}
-use Rattle.cc_kernel.specs.Kept.{parts}
-use Rattle.cc_kernel.specs.Seats.{is_out, is_out_place, seat_at, with_out}
+use Rattle.cc_kernel.specs.Invariant.{prepared_for}
+use Rattle.cc_kernel.specs.Store.{contents}
+use Rattle.cc_kernel.specs.Seats.{is_out, whereabouts_out, seat_at, with_out}
 use Rattle.cc_rules.specs.Runs.{state_after, turns}
 use Rattle.cc_kernel.proofs.kernel.Kernel.pick.Goals as goal
 
@@ -17,19 +17,19 @@ returns-in_default-clause-none g c =
     rw (← c.self.view_is)
     (inl
     (all-out (g.B.Behave.at k.code.value)
-    (state_after (g.B.Behave.means k.code.value) k.kept.input k.journal.items).processes
-    k.kept.seats.items c.self.invariant.state.seated c.in_default.ensures))
+    (state_after (g.B.Behave.means k.code.value) k.store.input k.journal.items).processes
+    k.store.seats.items c.self.invariant.state.seated c.in_default.ensures))
 
 pub invariant_of-self : goal.invariant_of-self
 invariant_of-self g c =
     let k = c.self.inside in
     kept-out (g.B.Behave.means k.code.value) (g.B.Behave.at k.code.value)
-    k.turns k.spent k.journal.items k.journal.spare k.kept k.need k.faults c.take.new.self
+    k.turns k.spent k.journal.items k.journal.spare k.store k.need k.faults c.take.new.self
     c.in-Some.at c.in-Some-take.process c.in-Some-take.grant
     c.self.invariant
     c.in-Some.ensures.0
-    c.in-Some-take.ensures.place.0
-    c.in-Some-take.ensures.place.1
+    c.in-Some-take.ensures.whereabouts.0
+    c.in-Some-take.ensures.whereabouts.1
     c.in-Some-take.ensures.spare
 
 pub returns-clause-going : goal.returns-clause-going
@@ -37,40 +37,40 @@ returns-clause-going g c =
     let k = c.self.inside in
     rw (← c.self.view_is)
     (running-goes (g.B.Behave.at k.code.value) (g.B.Behave.means k.code.value)
-    (state_after (g.B.Behave.means k.code.value) k.kept.input k.journal.items) (parts k.kept) (turns k.journal.items) k.turns c.in-Some.at
+    (state_after (g.B.Behave.means k.code.value) k.store.input k.journal.items) (contents k.store) (turns k.journal.items) k.turns c.in-Some.at
     c.self.invariant.state c.self.invariant.quiet
     (other-count k.spent k.turns (turns k.journal.items) c.self.invariant.spent_turns c.if-self.false)
     (kept-ready (g.B.Behave.means k.code.value) (g.B.Behave.at k.code.value)
-    k.kept.input k.journal.items k.kept.seats.items c.in-Some.at c.in-Some-take.process c.in-Some-take.grant
+    k.store.input k.journal.items k.store.seats.items c.in-Some.at c.in-Some-take.process c.in-Some-take.grant
     c.self.invariant.state.seated
     c.in-Some.ensures.0
-    c.in-Some-take.ensures.place.0).0)
+    c.in-Some-take.ensures.whereabouts.0).0)
 
 pub returns-clause-ready : goal.returns-clause-ready
 returns-clause-ready g c =
     let k = c.self.inside in
     rw (← c.self.view_is)
-    (ready-next (g.B.Behave.means k.code.value) (g.met.B.Behave.well_formed k.code.value) k.kept.input k.journal.items c.self.invariant.runs
+    (ready-next (g.B.Behave.means k.code.value) (g.met.B.Behave.well_formed k.code.value) k.store.input k.journal.items c.self.invariant.runs
     (g.B.Behave.at k.code.value) c.in-Some.at c.in-Some-take.process c.in-Some-take.grant
     (kept-ready (g.B.Behave.means k.code.value) (g.B.Behave.at k.code.value)
-    k.kept.input k.journal.items k.kept.seats.items c.in-Some.at c.in-Some-take.process c.in-Some-take.grant
+    k.store.input k.journal.items k.store.seats.items c.in-Some.at c.in-Some-take.process c.in-Some-take.grant
     c.self.invariant.state.seated
     c.in-Some.ensures.0
-    c.in-Some-take.ensures.place.0))
+    c.in-Some-take.ensures.whereabouts.0))
 
 pub returns-clause-was_in : goal.returns-clause-was_in
 returns-clause-was_in g c =
     rw (← c.self.view_is)
-    (in-at c.self.inside.kept.seats.items c.in-Some.at false c.in-Some.ensures.0 (ap is_out_place c.in-Some-take.ensures.place.0))
+    (in-at c.self.inside.store.seats.items c.in-Some.at false c.in-Some.ensures.0 (ap whereabouts_out c.in-Some-take.ensures.whereabouts.0))
 
 pub returns-clause-out : goal.returns-clause-out
 returns-clause-out g c =
     let k = c.self.inside in
-    rw (c.in-Some-take.ensures.place.1, ← c.self.view_is)
-    (ap (λ xs. record { code = k.code.value; input = k.kept.input; turns = k.turns; journal = k.journal.items; outs = xs; prepared = prepared_for k.need })
-    (map-set is_out k.kept.seats.items c.in-Some.at (with_out (seat_at k.kept.seats.items c.in-Some.at))))
+    rw (c.in-Some-take.ensures.whereabouts.1, ← c.self.view_is)
+    (ap (λ xs. record { code = k.code.value; input = k.store.input; turns = k.turns; journal = k.journal.items; outs = xs; prepared = prepared_for k.need })
+    (map-set is_out k.store.seats.items c.in-Some.at (with_out (seat_at k.store.seats.items c.in-Some.at))))
 
 pub returns-clause-is_out : goal.returns-clause-is_out
 returns-clause-is_out g c =
-    rw c.in-Some-take.ensures.place.1
-    (out-set c.self.inside.kept.seats.items c.in-Some.at (with_out (seat_at c.self.inside.kept.seats.items c.in-Some.at)) c.in-Some.ensures.0 refl)
+    rw c.in-Some-take.ensures.whereabouts.1
+    (out-set c.self.inside.store.seats.items c.in-Some.at (with_out (seat_at c.self.inside.store.seats.items c.in-Some.at)) c.in-Some.ensures.0 refl)

@@ -1,6 +1,6 @@
 use Rattle.std.proofs.Common.{sym, ◌∙◌}
 use Rattle.cc_kernel.proofs.Stands.{shape-ended, shape-going, shape-spent, same-count, other-count, shape-stuck, some-running, stands-as}
-use Rattle.cc_kernel.specs.Kept.{parts}
+use Rattle.cc_kernel.specs.Store.{contents}
 use Rattle.cc_rules.specs.Runs.{state_after, turns}
 use Rattle.cc_rules.specs.State.{is_running}
 use Rattle.cc_kernel.proofs.kernel.Kernel.state.Goals as goal
@@ -11,7 +11,7 @@ returns-then-all_over-clause-standing g c =
     let m = g.B.Behave.means c.self.inside.code.value in
     rw (← c.self.view_is)
     (sym
-    (stands-as (g.B.Behave.at k.code.value) (g.B.Behave.means k.code.value) (state_after (g.B.Behave.means k.code.value) k.kept.input k.journal.items) (parts k.kept) (turns k.journal.items) k.turns
+    (stands-as (g.B.Behave.at k.code.value) (g.B.Behave.means k.code.value) (state_after (g.B.Behave.means k.code.value) k.store.input k.journal.items) (contents k.store) (turns k.journal.items) k.turns
     c.self.invariant.state c.self.invariant.quiet
     ∙ shape-ended _ _ _ _ c.some_faulted.result (sym c.all_over.ensures ∙ c.if-all_over.true) (sym c.some_faulted.ensures)))
 
@@ -20,7 +20,7 @@ returns-then-not-some_running-clause-standing g c =
     let k = c.self.inside in
     rw (← c.self.view_is)
     (sym
-    (stands-as (g.B.Behave.at k.code.value) (g.B.Behave.means k.code.value) (state_after (g.B.Behave.means k.code.value) k.kept.input k.journal.items) (parts k.kept) (turns k.journal.items) k.turns
+    (stands-as (g.B.Behave.at k.code.value) (g.B.Behave.means k.code.value) (state_after (g.B.Behave.means k.code.value) k.store.input k.journal.items) (contents k.store) (turns k.journal.items) k.turns
     c.self.invariant.state c.self.invariant.quiet
     ∙ shape-stuck _ _ _ _ (sym c.all_over.ensures ∙ c.if-all_over.false) (sym c.some_running.ensures ∙ c.if-not-some_running.true)))
 
@@ -29,7 +29,7 @@ returns-then-self-clause-standing g c =
     let k = c.self.inside in
     rw (← c.self.view_is)
     (sym
-    (stands-as (g.B.Behave.at k.code.value) (g.B.Behave.means k.code.value) (state_after (g.B.Behave.means k.code.value) k.kept.input k.journal.items) (parts k.kept) (turns k.journal.items) k.turns
+    (stands-as (g.B.Behave.at k.code.value) (g.B.Behave.means k.code.value) (state_after (g.B.Behave.means k.code.value) k.store.input k.journal.items) (contents k.store) (turns k.journal.items) k.turns
     c.self.invariant.state c.self.invariant.quiet
     ∙ shape-spent _ _ _ _ (sym c.all_over.ensures ∙ c.if-all_over.false) (sym c.some_running.ensures ∙ c.if-not-some_running.false)
     (same-count k.spent k.turns (turns k.journal.items) c.self.invariant.spent_turns c.if-self.true)))
@@ -39,7 +39,7 @@ returns-clause-standing g c =
     let k = c.self.inside in
     rw (← c.self.view_is)
     (sym
-    (stands-as (g.B.Behave.at k.code.value) (g.B.Behave.means k.code.value) (state_after (g.B.Behave.means k.code.value) k.kept.input k.journal.items) (parts k.kept) (turns k.journal.items) k.turns
+    (stands-as (g.B.Behave.at k.code.value) (g.B.Behave.means k.code.value) (state_after (g.B.Behave.means k.code.value) k.store.input k.journal.items) (contents k.store) (turns k.journal.items) k.turns
     c.self.invariant.state c.self.invariant.quiet
     ∙ shape-going _ _ _ _ (sym c.all_over.ensures ∙ c.if-all_over.false) (sym c.some_running.ensures ∙ c.if-not-some_running.false)
     (other-count k.spent k.turns (turns k.journal.items) c.self.invariant.spent_turns c.if-self.false)))
@@ -48,5 +48,5 @@ pub returns-clause-going : goal.returns-clause-going
 returns-clause-going g c =
     let k = c.self.inside in
     λ going. rw (← c.self.view_is)
-    (some-running (g.B.Behave.at k.code.value) (g.B.Behave.means k.code.value) k.kept.input k.journal.items k.kept.seats.items
+    (some-running (g.B.Behave.at k.code.value) (g.B.Behave.means k.code.value) k.store.input k.journal.items k.store.seats.items
     c.self.invariant.state.seated (sym c.some_running.ensures ∙ c.if-not-some_running.false))

@@ -1,0 +1,97 @@
+use Rattle.std.proofs.Common.{refl, ap, ◌∙◌, map}
+use Rattle.std.specs.Prelude.{slice_get}
+use Rattle.std.proofs.lemmas.List.{map-set}
+use Rattle.cc_base.specs.declared.names.FaultKind.TheVariants.{TooMany}
+use Rattle.cc_base.specs.declared.request.Grant.TheVariants.{Go, Byte}
+use Rattle.cc_kernel.proofs.Requests.{answer-made, outs-left, start-made, state-asks-call, state-asks-create, state-asks-select, outs-call, outs-create, same-outs}
+use Rattle.cc_kernel.proofs.Simulates.{state-get, state-go, state-leave}
+use Rattle.cc_kernel.specs.Store.{contents}
+use Rattle.cc_kernel.specs.Contract.{is_out_in}
+use Rattle.cc_kernel.specs.Seats.{is_out, with_ready, with_waiting}
+use Rattle.cc_rules.specs.declared.process.ProcessStanding.TheVariants.{AtSelect, Ended, Faulted}
+use Rattle.cc_kernel.proofs.Requests.{only-accepts}
+use Rattle.cc_kernel.proofs.perform.change_store.Goals as goal
+
+pub returns-in-Print-clause-state : goal.returns-in-Print-clause-state
+returns-in-Print-clause-state g c s k a =
+    rw (c.in-Print.is, c.go_on.ensures.contents)
+    (state-go (g.B.Behave.at c.args.code.now) s (contents c.args.store.now) c.args.pid.0 c.args.process Go k a)
+
+pub returns-in-Print-clause-outs : goal.returns-in-Print-clause-outs
+returns-in-Print-clause-outs g c =
+    same-outs _ _ (ap (λ x. map is_out x.seats) c.go_on.ensures.contents ∙ map-set is_out c.args.store.now.seats.items c.args.pid.0 (with_ready c.args.process Go))
+
+pub returns-in-Pause-clause-state : goal.returns-in-Pause-clause-state
+returns-in-Pause-clause-state g c s k a =
+    rw (c.in-Pause.is, c.go_on-in-Pause.ensures.contents)
+    (state-go (g.B.Behave.at c.args.code.now) s (contents c.args.store.now) c.args.pid.0 c.args.process Go k a)
+
+pub returns-in-Pause-clause-outs : goal.returns-in-Pause-clause-outs
+returns-in-Pause-clause-outs g c =
+    same-outs _ _ (ap (λ x. map is_out x.seats) c.go_on-in-Pause.ensures.contents ∙ map-set is_out c.args.store.now.seats.items c.args.pid.0 (with_ready c.args.process Go))
+
+pub returns-in-Some-clause-state : goal.returns-in-Some-clause-state
+returns-in-Some-clause-state g c s k a =
+    let made = c.in-Some.ensures in
+    rw (c.in-Create.is, c.create.ensures.contents)
+    (state-asks-create (g.B.Behave.means c.args.code.now) (g.B.Behave.at c.args.code.now) s (contents c.args.store.now) c.args.pid c.args.process c.in-Some.new c.in-Create._kind c.in-Create._args k c.requires.within a
+    (start-made (g.B.Behave.means c.args.code.now) (g.B.Behave.at c.args.code.now) c.args.store.now c.requires.ready.0 c.args.need made.0 c.in-Create._kind made.1 c.in-Create._args c.in-Some.new made.2
+    (rw c.in-Create.is at c.requires.enough)
+    c.requires.ready.1))
+
+pub returns-in-Some-clause-outs : goal.returns-in-Some-clause-outs
+returns-in-Some-clause-outs g c =
+    λ i. ap (λ x. is_out_in (map is_out x.seats) i) c.create.ensures.contents ∙ outs-create (contents c.args.store.now) c.args.pid.0 c.args.process c.in-Some.new (Faulted TooMany) _ i
+
+pub returns-in-Call-clause-state : goal.returns-in-Call-clause-state
+returns-in-Call-clause-state g c s k a =
+    rw (c.in-Call.is, c.call.ensures.contents)
+    (state-asks-call (g.B.Behave.means c.args.code.now) (g.B.Behave.at c.args.code.now) s (contents c.args.store.now) c.args.pid c.args.process c.in-Call.target c.in-Call.trans c.in-Call.args k a)
+
+pub returns-in-Call-clause-outs : goal.returns-in-Call-clause-outs
+returns-in-Call-clause-outs g c =
+    same-outs _ _ (ap (λ x. map is_out x.seats) c.call.ensures.contents ∙ outs-call (contents c.args.store.now) c.args.pid c.args.process c.in-Call.target c.in-Call.trans c.in-Call.args _)
+
+pub returns-in-Select-clause-state : goal.returns-in-Select-clause-state
+returns-in-Select-clause-state g c s k a =
+    let one = rw c.in-Select.is at c.requires.supported in
+    rw (c.in-Select.is, c.select.ensures.contents)
+    (state-asks-select (g.B.Behave.means c.args.code.now) (g.B.Behave.at c.args.code.now) s (contents c.args.store.now) c.args.pid.0 c.args.process c.in-Select.alts k (only-accepts c.in-Select.alts one) a)
+
+pub returns-in-Select-clause-outs : goal.returns-in-Select-clause-outs
+returns-in-Select-clause-outs g c =
+    same-outs _ _ (ap (λ x. map is_out x.seats) c.select.ensures.contents ∙ map-set is_out c.args.store.now.seats.items c.args.pid.0 (with_waiting c.args.process (AtSelect c.in-Select.alts c.args.store.now.moment)))
+
+pub returns-in-Some-answer-clause-state : goal.returns-in-Some-answer-clause-state
+returns-in-Some-answer-clause-state g c s k a =
+    let made = c.in-Some-answer.ensures in
+    let enough = rw c.in-Reply.is at c.requires.enough in
+    let fits = answer-made (g.B.Behave.means c.args.code.now) (g.B.Behave.at c.args.code.now) c.args.store.now c.requires.ready.0 c.args.need c.in-Some-answer.value c.in-Reply._value made.0 enough.0 made.1 enough.1 c.requires.ready.1 in
+    rw c.in-Reply.is (c.reply.ensures.state s c.in-Reply._value enough.0 fits.0 fits.1 k a)
+
+pub returns-in-Get-clause-state : goal.returns-in-Get-clause-state
+returns-in-Get-clause-state g c s k a =
+    rw (c.in-Get.is, c.get.ensures.contents)
+    (state-get (g.B.Behave.at c.args.code.now) s (contents c.args.store.now) c.args.pid.0 c.args.process k a)
+
+pub returns-in-Get-clause-outs : goal.returns-in-Get-clause-outs
+returns-in-Get-clause-outs g c =
+    same-outs _ _ (ap (λ x. map is_out x.seats) c.get.ensures.contents ∙ map-set is_out c.args.store.now.seats.items c.args.pid.0 (with_ready c.args.process (Byte (slice_get c.args.store.now.input c.args.store.now.taken))))
+
+pub returns-in-Done-clause-state : goal.returns-in-Done-clause-state
+returns-in-Done-clause-state g c s k a =
+    rw (c.in-Done.is, c.leave.ensures.contents)
+    (state-leave (g.B.Behave.at c.args.code.now) s (contents c.args.store.now) c.args.pid.0 Ended k c.requires.within (refl, tt))
+
+pub returns-in-Done-clause-outs : goal.returns-in-Done-clause-outs
+returns-in-Done-clause-outs g c =
+    same-outs _ _ (ap (λ x. map is_out x.seats) c.leave.ensures.contents ∙ outs-left (contents c.args.store.now) c.args.pid.0 Ended)
+
+pub returns-in-Fault-clause-state : goal.returns-in-Fault-clause-state
+returns-in-Fault-clause-state g c s k a =
+    rw (c.in-Fault.is, c.leave-in-Fault.ensures.contents)
+    (state-leave (g.B.Behave.at c.args.code.now) s (contents c.args.store.now) c.args.pid.0 (Faulted c.in-Fault.kind) k c.requires.within (refl, tt))
+
+pub returns-in-Fault-clause-outs : goal.returns-in-Fault-clause-outs
+returns-in-Fault-clause-outs g c =
+    same-outs _ _ (ap (λ x. map is_out x.seats) c.leave-in-Fault.ensures.contents ∙ outs-left (contents c.args.store.now) c.args.pid.0 (Faulted c.in-Fault.kind))

@@ -1,0 +1,17 @@
+use Rattle.std.proofs.Common.{ap, ◌∙◌, map}
+use Rattle.std.proofs.lemmas.List.{map-set}
+use Rattle.cc_base.specs.declared.request.Grant.TheVariants.{Go}
+use Rattle.cc_kernel.proofs.Requests.{same-outs}
+use Rattle.cc_kernel.proofs.Simulates.{state-go}
+use Rattle.cc_kernel.specs.Store.{contents}
+use Rattle.cc_kernel.specs.Seats.{is_out, with_ready}
+use Rattle.cc_kernel.proofs.perform.perform.Goals as goal
+
+pub returns-in-Print-clause-state : goal.returns-in-Print-clause-state
+returns-in-Print-clause-state g c s k a =
+    rw (c.in-Print.is, c.go_on.ensures.contents)
+    (state-go (g.B.Behave.at c.args.code.now) s (contents c.args.store.now) c.args.pid.0 c.args.process Go k a)
+
+pub returns-in-Print-clause-outs : goal.returns-in-Print-clause-outs
+returns-in-Print-clause-outs g c =
+    same-outs _ _ (ap (λ x. map is_out x.seats) c.go_on.ensures.contents ∙ map-set is_out c.args.store.now.seats.items c.args.pid.0 (with_ready c.args.process Go))

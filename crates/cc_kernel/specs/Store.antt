@@ -1,0 +1,174 @@
+-- What the kernel keeps of a state, and when it is the state that the machine is in.
+use Rattle.std.specs.Prelude.{◌≡◌, ℕ, ◌+◌, ◌≤◌, ℤ, true, false, not, List, [], ◌∷◌, ◌++◌, length, drop, get_or, map, nat_lt, remove, set, slice_get, if◌then◌else◌}
+use Rattle.std.specs.List.{filter}
+use Rattle.cc_base.specs.Supported.{IsAccept}
+use Rattle.cc_base.specs.declared.alternatives.Alt.{Alt}
+use Rattle.cc_base.specs.declared.names.Pid.{Pid}
+use Rattle.cc_base.specs.declared.request.Grant.{Grant}
+use Rattle.cc_base.specs.declared.request.Grant.TheVariants.{Go, Made, Took, Byte}
+use Rattle.cc_kernel.specs.Seats.{gone_seats, is_served_by, no_call, seat_at, served_call, with_left, with_ready, with_waiting, woken}
+use Rattle.cc_kernel.specs.declared.store.Store.{Store}
+use Rattle.cc_kernel.specs.declared.seat.Whereabouts.{Whereabouts}
+use Rattle.cc_kernel.specs.declared.seat.Whereabouts.TheVariants.{Ready, Out, Waits, Left}
+use Rattle.cc_kernel.specs.declared.seat.Seat.{Seat}
+use Rattle.cc_kernel.specs.declared.served.ServedCall.{ServedCall}
+use Rattle.cc_base.specs.Limits.{most_processes}
+use Rattle.cc_rules.specs.Effects.{is_for}
+use Rattle.cc_rules.specs.State.{Process, State, is_over, is_running, process_at}
+use Rattle.cc_rules.specs.declared.process.ProcessStanding.{ProcessStanding}
+use Rattle.cc_rules.specs.declared.process.ProcessStanding.TheVariants.{Running, AtSelect, AtDelay, AtCall, Ended, Faulted}
+use Rattle.cc_rules.specs.declared.process.TransactionCall.{TransactionCall}
+use Rattle.cc_rules.specs.declared.process.Waiting.{Waiting}
+use Rattle.cc_rules.specs.declared.process.Waiting.TheVariants.{Nobody, Caller, Until}
+
+-- what is kept, as lists and numbers
+pub record Contents (P : Type 0) : Type 0 where
+  pub seats : List (Seat P)
+  pub pending : List TransactionCall
+  -- in the order accepted
+  pub served : List ServedCall
+  pub drawn : ℕ
+  -- the whole input, and how much of it was taken
+  pub input : List ℕ
+  pub taken : ℕ
+  pub moment : ℕ
+
+module _ {P : Type 0} where
+  abbrev pub contents : Store P → Contents P
+  contents store =
+      record {
+        seats = store.seats.items;
+        pending = store.pending.items;
+        served = store.served.items;
+        drawn = store.drawn;
+        input = store.input;
+        taken = store.taken;
+        moment = store.moment;
+      }
+
+  -- p goes on with this grant
+  abbrev pub went_on : Contents P → ℕ → P → Grant → Contents P
+  went_on x p process grant = record x { seats = set x.seats p (with_ready process grant) }
+
+  -- p waits
+  abbrev pub waited : Contents P → ℕ → P → ProcessStanding → Contents P
+  waited x p process standing = record x { seats = set x.seats p (with_waiting process standing) }
+
+  -- p waits for a new call
+  abbrev pub called_contents : Contents P → Pid → P → Pid → ℕ → List ℤ → Contents P
+  called_contents x p process target trans args =
+      record x {
+        seats = set x.seats p.0 (with_waiting process (AtCall (record { 0 = x.drawn })));
+        pending =
+            x.pending ++ record { number = record { 0 = x.drawn }; target = target; trans = trans; args = args; waiting = Caller p } ∷ [];
+        drawn = x.drawn + 1;
+      }
+
+  -- p is over
+  abbrev pub left_contents : Contents P → ℕ → ProcessStanding → Contents P
+  left_contents x p standing =
+      record x {
+        seats =
+            gone_seats
+            (gone_seats (set x.seats p (with_left standing)) (map served_call (filter (is_for p) x.pending)))
+            (filter (is_served_by p) x.served);
+        pending = filter (λ call. not (is_for p call)) x.pending;
+        served = filter (λ call. not (is_served_by p call)) x.served;
+      }
+
+  -- p made a process
+  abbrev pub made_contents : Contents P → ℕ → P → P → Contents P
+  made_contents x p process new =
+      record x {
+        seats = set x.seats p (with_ready process (Made (record { 0 = length x.seats }))) ++ with_ready new Go ∷ [];
+      }
+
+  -- p took a byte of the input
+  abbrev pub got_byte : Contents P → ℕ → P → Contents P
+  got_byte x p process =
+      record x {
+        seats = set x.seats p (with_ready process (Byte (slice_get x.input x.taken)));
+        taken = if nat_lt x.taken (length x.input) then x.taken + 1 else x.taken;
+      }
+
+  -- the pending call at this index is served by its target, which took it by its alternative i
+  abbrev pub accepted_contents : Contents P → ℕ → ℕ → Contents P
+  accepted_contents x index i =
+      let call = get_or x.pending index no_call in
+      record x {
+        seats = set x.seats call.target.0 (woken (seat_at x.seats call.target.0) (Took i call.args));
+        pending = remove x.pending index;
+        served = x.served ++ served_call call ∷ [];
+      }
+
+abbrev pub OnlyAccepts : List (ℕ × Alt) → Type 0
+OnlyAccepts [] = Unit {0}
+OnlyAccepts (a ∷ alts) = IsAccept a.1 × OnlyAccepts alts
+
+-- a process that stands so waits for no deadline, and takes nothing but calls
+abbrev pub IsPlain : ProcessStanding → Type 0
+IsPlain Running = Unit {0}
+IsPlain (AtSelect alts asked) = OnlyAccepts alts
+IsPlain (AtDelay deadline) = ⊥
+IsPlain (AtCall call) = Unit {0}
+IsPlain Ended = Unit {0}
+IsPlain (Faulted kind) = Unit {0}
+
+-- a caller waits for the answer, without a deadline
+abbrev pub IsAwaited : Waiting → Type 0
+IsAwaited Nobody = ⊥
+IsAwaited (Caller p) = Unit {0}
+IsAwaited (Until p deadline) = ⊥
+
+abbrev pub AllAwaited : List TransactionCall → Type 0
+AllAwaited [] = Unit {0}
+AllAwaited (call ∷ calls) = IsAwaited call.waiting × AllAwaited calls
+
+-- the numbers of the calls rise from low on, and stay below high
+abbrev pub Rising : ℕ → List TransactionCall → ℕ → Type 0
+Rising low [] high = low ≤ high
+Rising low (call ∷ calls) high = (low ≤ call.number.0) × Rising (call.number.0 + 1) calls high
+
+module _ {P : Type 0} where
+  -- the process is running, and the program left it here before its last grant
+  abbrev pub IsReady : (P → ℕ → List ℤ → List Grant → Type 0) → Process → P → Grant → Type 0
+  IsReady located q process grant =
+      (is_running q.standing ≡ true)
+      × ((front : List Grant) × (q.grants ≡ front ++ grant ∷ []) × located process q.kind q.args front)
+
+  -- where a process is, given that located tells where the program leaves it
+  abbrev pub WhereaboutsFit : (P → ℕ → List ℤ → List Grant → Type 0) → Process → Whereabouts P → Type 0
+  WhereaboutsFit located q (Ready process grant) = IsReady located q process grant
+  WhereaboutsFit located q Out = is_running q.standing ≡ true
+  WhereaboutsFit located q (Waits process) =
+      (is_over q.standing ≡ false) × (is_running q.standing ≡ false) × located process q.kind q.args q.grants
+  WhereaboutsFit located q Left = is_over q.standing ≡ true
+
+  pub record SeatFits (located : P → ℕ → List ℤ → List Grant → Type 0) (q : Process) (seat : Seat P) : Type 0 where
+    pub standing : seat.standing ≡ q.standing
+    pub whereabouts : WhereaboutsFit located q seat.whereabouts
+    pub plain : IsPlain q.standing
+
+  -- the seats hold these processes
+  abbrev pub Seated : (P → ℕ → List ℤ → List Grant → Type 0) → List Process → List (Seat P) → Type 0
+  Seated located [] [] = Unit {0}
+  Seated located (q ∷ qs) (seat ∷ seats) = SeatFits located q seat × Seated located qs seats
+  Seated located [] (seat ∷ seats) = ⊥
+  Seated located (q ∷ qs) [] = ⊥
+
+  -- the process of this number is where the program leaves it after its grants
+  abbrev pub IsLocated : (P → ℕ → List ℤ → List Grant → Type 0) → State → ℕ → P → Type 0
+  IsLocated located s p process =
+      located process (process_at s.processes p).kind (process_at s.processes p).args (process_at s.processes p).grants
+
+-- what is kept is this state
+pub record IsState {P : Type 0} (located : P → ℕ → List ℤ → List Grant → Type 0) (s : State) (x : Contents P) : Type 0 where
+  pub seated : Seated located s.processes x.seats
+  pub few : length x.seats ≤ most_processes
+  pub pending : x.pending ≡ s.pending
+  pub served : (i : ℕ) → filter (is_served_by i) x.served ≡ map served_call (process_at s.processes i).serving
+  pub drawn : x.drawn ≡ s.drawn
+  pub input : drop x.taken x.input ≡ s.input
+  pub moment : x.moment ≡ s.moment
+  pub rising : Rising 0 s.pending s.drawn
+  pub awaited : AllAwaited s.pending

@@ -1,0 +1,3 @@
+mod Scripted
+mod Calm
+mod WorkedWell

@@ -1,0 +1,6 @@
+-- programs that are written out by hand, with their runs
+pub mod Worked
+-- programs that follow a table
+pub mod Tables
+-- laws of both
+pub mod lemmas
