@@ -27,8 +27,7 @@ use Rattle.cc_source.specs.Lawful.{early-is, early-means, early_form}
 use Rattle.cc_command.proofs.Shapes.{Printed, Prints, Steps, run-steps}
 use Rattle.cc_command.specs.Printing.{printing}
 use Rattle.cc_command.specs.Program.{means, program_of}
-use Rattle.cc_kernel.specs.Held.{IsOver}
-use Rattle.cc_kernel.specs.Standing.{standing_in}
+use Rattle.cc_rules.specs.Standing.{IsOver, standing_in}
 use Rattle.cc_rules.proofs.AlikeRuns.{SameRun-alike}
 use Rattle.cc_rules.specs.Ends.{has_faulted, is_complete}
 use Rattle.cc_rules.specs.Runs.{IsRun, state_after, turns}

@@ -15,12 +15,5 @@ mod words;
 
 pub use command::{Finished, command_one};
 pub use program::read_program;
-pub use reader::{MOST_TEXT_BYTES, ReadError, one_program};
+pub use reader::{MOST_TEXT_BYTES, ReadError, one_program, read_bytes};
 pub use words::Words;
-
-#[cfg(test)]
-mod drive_tests;
-#[cfg(test)]
-mod reader_tests;
-#[cfg(test)]
-mod tests;

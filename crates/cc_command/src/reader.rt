@@ -95,7 +95,7 @@ fn statement(text: &[u8]) -> Option<(u8, &[u8])>
 
 /// The bytes that the program of this text prints, in order. `Unbuilt` where the text is no program, as where it has more
 /// than [`MOST_TEXT_BYTES`].
-pub(crate) fn read_bytes(alloc: Global, text: &[u8]) -> Result<Bytes, ReadError>
+pub fn read_bytes(alloc: Global, text: &[u8]) -> Result<Bytes, ReadError>
     ensures program { IfOk result (λ bytes. IsProgram text.now bytes) }
     ensures unbuilt { IsErrOf result ReadError.Unbuilt → (bytes : List ℕ) → ¬ IsProgram text.now bytes }
 {

@@ -5,7 +5,8 @@ use Rattle.std.specs.Prelude.{slice_get, nat_lt, if◌then◌else◌, is_some, n
 use Rattle.std.proofs.lemmas.Bool.{eqb-true}
 use Rattle.std.proofs.lemmas.List.Elements.{All-cons, All-nil}
 use Rattle.cc_base.specs.Outcome.{Left, Outcome, Through, Asked, Eval, ask, asked_by}
-use Rattle.cc_base.specs.Served.{AsksServed}
+use Rattle.cc_base.specs.Limits.{most_calls}
+use Rattle.cc_base.specs.Supported.{AsksSupported}
 use Rattle.cc_base.specs.Requests.{HasSites, IsAlternativeOf, IsAtSite, WellFormed}
 use Rattle.cc_base.specs.Alternatives.{NumbersRise}
 use Rattle.cc_base.specs.declared.alternatives.Alt.{Alt}
@@ -13,7 +14,7 @@ use Rattle.cc_base.specs.declared.names.FaultKind.TheVariants.{Cells}
 use Rattle.cc_base.specs.declared.request.Grant.{Grant}
 use Rattle.cc_base.specs.declared.request.Request.TheVariants as request
 use Rattle.cc_source.specs.Conversions.{and-left, and-right, converted-straight, expression-straight, type-straight}
-use Rattle.cc_source.specs.Known.{IsServable, Single, Safe, safe, ask-safe, one-cell, single-append, single-set, single-set_from, unflats-single, zero-cells, zeros-single}
+use Rattle.cc_source.specs.Known.{IsPerformable, Single, Safe, safe, ask-safe, one-cell, single-append, single-set, single-set_from, unflats-single, zero-cells, zeros-single}
 use Rattle.cc_source.specs.Projections.{kind-body, kind-variables, passes-get, transaction-parameters}
 use Rattle.cc_source.specs.Safe.{eval-safe}
 use Rattle.cc_source.specs.Unflats.{types-drop, types-take}
@@ -23,7 +24,7 @@ use Rattle.cc_typed.specs.Missing.{first_at, parameters_at, transaction_at}
 use Rattle.cc_typed.specs.Numbers.{converted}
 use Rattle.cc_typed.specs.Parts.{Parts}
 use Rattle.cc_typed.specs.Phrases.{branch, branches, while_loop, do_loop, for_loop}
-use Rattle.cc_source.specs.Programs.{act, body, call, fit, left_at_start, meaning, most_calls, parameter_cells, shape_of, site_rank, variables_at_start}
+use Rattle.cc_source.specs.Programs.{act, body, call, fit, left_at_start, meaning, parameter_cells, shape_of, site_rank, variables_at_start}
 use Rattle.cc_source.specs.Straight.{are_straight_statements, is_straight_option, is_straight_program, is_straight_statement, is_straight_type, is_straight_value}
 use Rattle.cc_typed.specs.KnownTypes.{is_process_type, is_whole}
 use Rattle.cc_typed.specs.Typed.{Surroundings, are_typed_kinds, are_typed_statements, are_variables, has_main, is_accepted, is_given, is_of_kind, is_of_type, is_typed_function, is_typed_kind, is_typed_program, is_typed_site, is_typed_statement, is_typed_transaction}
@@ -93,7 +94,7 @@ module _ (p : Parts) (typed : is_typed_program p ≡ true) (straight : is_straig
     taken-single : (site : ℕ) (g : Grant) (sc : Scope) → Single sc → Single (scope_taken p site g sc)
     taken-single site g sc s = single-set_from (first_at (slice_get p.sites site)) (unflats (parameters_at (transaction_of p site)) (args_taken g)) sc (unflats-single (parameters_at (transaction_of p site)) (args_taken g) (parameters-straight site)) s
 
-    select-servable : (site : ℕ) (sc : Scope) → (is_some (slice_get (map shape_of p.transactions) (transaction_at (slice_get p.sites site))) ≡ true) × (site < length p.sites) → IsServable p (request.Select ((0, alternative_at p site sc) ∷ []))
+    select-servable : (site : ℕ) (sc : Scope) → (is_some (slice_get (map shape_of p.transactions) (transaction_at (slice_get p.sites site))) ≡ true) × (site < length p.sites) → IsPerformable p (request.Select ((0, alternative_at p site sc) ∷ []))
     select-servable site sc known =
         (((λ e. cc), one-rises (0, alternative_at p site sc), All-cons (λ a. IsAlternativeOf (meaning p) a.1) (0, alternative_at p site sc) [] known.0 (All-nil (λ a. IsAlternativeOf (meaning p) a.1))), All-cons (λ a. IsAtSite (length p.sites) a.1) (0, alternative_at p site sc) [] known.1 (All-nil (λ a. IsAtSite (length p.sites) a.1)), tt)
 
@@ -159,18 +160,18 @@ module _ (p : Parts) (typed : is_typed_program p ≡ true) (straight : is_straig
   kind-typed number (x ∷ xs) zero kind h e = let same : x ≡ kind = cc in (number, subst (λ y. is_typed_kind p number y ≡ true) same (and-left _ _ h))
   kind-typed number (x ∷ xs) (suc k) kind h e = kind-typed (suc number) xs k kind (and-right (is_typed_kind p number x) _ h) e
 
-  asked-known : {A : Type 0} (o : Outcome Scope A) (good : A → Type 0) → Safe p good o → IsServable p (asked_by request.Done o)
+  asked-known : {A : Type 0} (o : Outcome Scope A) (good : A → Type 0) → Safe p good o → IsPerformable p (asked_by request.Done o)
   asked-known (Through v sc l) good s = (tt, tt, tt)
   asked-known (Asked q) good s = s
 
-  body-known : (o : Option Kind) (k : ℕ) → slice_get p.kinds k ≡ o → (args : List ℤ) (grants : List Grant) → IsServable p (asked_by request.Done (body p o args grants))
+  body-known : (o : Option Kind) (k : ℕ) → slice_get p.kinds k ≡ o → (args : List ℤ) (grants : List Grant) → IsPerformable p (asked_by request.Done (body p o args grants))
   body-known None k e args grants = (tt, tt, tt)
   body-known (Some kind) k e args grants = go (nat_lt 65536 (cells_all kind.variables))
     where
       kinds : are_typed_kinds p 0 p.kinds ≡ true
       kinds = and-right (has_main p.kinds) _ (and-left _ _ (and-left _ _ (and-left _ _ typed)))
 
-      go : (b : Bool) → IsServable p (asked_by request.Done (if b then Asked (request.Fault Cells) else exec_all p (call p most_calls (cells_all kind.variables)) kind.body (variables_at_start kind args) (left_at_start grants)))
+      go : (b : Bool) → IsPerformable p (asked_by request.Done (if b then Asked (request.Fault Cells) else exec_all p (call p most_calls (cells_all kind.variables)) kind.body (variables_at_start kind args) (left_at_start grants)))
       go true = (tt, tt, tt)
       go false =
           let j = kind-typed 0 p.kinds k kind kinds e in
@@ -178,7 +179,7 @@ module _ (p : Parts) (typed : is_typed_program p ≡ true) (straight : is_straig
           asked-known (exec_all p (call p most_calls (cells_all kind.variables)) kind.body (variables_at_start kind args) (left_at_start grants)) (λ flow. Unit {0}) (all-safe (call p most_calls (cells_all kind.variables)) kind.variables (Some j.0) (Some kind.result) kind.body (variables_at_start kind args) (left_at_start grants) (kind-body p k kind straight e) (and-right (are_variables p kind.parameters kind.variables && (is_void kind.result || nat_eq j.0 0 && is_whole p kind.result)) _ j.1)
           (single-append (unflats (take kind.parameters kind.variables) args) _ (unflats-single (take kind.parameters kind.variables) args (types-take kind.variables kind.parameters vs)) (zeros-single (drop kind.parameters kind.variables) (types-drop kind.variables kind.parameters vs))))
 
-  asks-known : (kind : ℕ) (args : List ℤ) (grants : List Grant) → IsServable p (act p kind args grants)
+  asks-known : (kind : ℕ) (args : List ℤ) (grants : List Grant) → IsPerformable p (act p kind args grants)
   unfolding act
   asks-known kind args grants = body-known (slice_get p.kinds kind) kind refl args grants
 
@@ -195,7 +196,7 @@ module _ (p : Parts) (typed : is_typed_program p ≡ true) (straight : is_straig
   pub keeps-form : WellFormed (meaning p)
   keeps-form = record { main = main-of p.kinds (and-left _ _ (and-left _ _ (and-left _ _ (and-left _ _ typed)))); requests = λ kind args grants exists proper. (asks-known kind args grants).0 }
 
-  pub keeps-served : AsksServed (meaning p)
+  pub keeps-served : AsksSupported (meaning p)
   keeps-served kind args grants exists proper = (asks-known kind args grants).2
 
   pub keeps-sites : HasSites (meaning p) (length p.sites)

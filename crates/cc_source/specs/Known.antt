@@ -5,7 +5,7 @@ use Rattle.std.specs.Prelude.{slice_get}
 use Rattle.std.specs.Option.{option_map}
 use Rattle.cc_base.specs.Outcome.{Left, Outcome, Through, Asked, Eval, and_then, ask}
 use Rattle.cc_base.specs.Requests.{IsRequestOf, NamesSites}
-use Rattle.cc_base.specs.Served.{IsServed}
+use Rattle.cc_base.specs.Supported.{IsSupported}
 use Rattle.cc_base.specs.declared.names.Pid.{Pid}
 use Rattle.cc_base.specs.declared.names.Shape.{Shape}
 use Rattle.cc_base.specs.declared.request.Grant.{Grant}
@@ -193,19 +193,19 @@ takes-cells (t ∷ ts) (suc k) n a b h e = takes-cells ts k n a b h e
 
 module _ (p : Parts) where
   -- the machine can serve the request, each accept site that it names exists, and it is among those that are served so far
-  abbrev pub IsServable : Request → Type 0
-  IsServable q = IsRequestOf (meaning p) q × NamesSites (length p.sites) q × IsServed q
+  abbrev pub IsPerformable : Request → Type 0
+  IsPerformable q = IsRequestOf (meaning p) q × NamesSites (length p.sites) q × IsSupported q
 
   -- an evaluation keeps the variables single and gives what is good, or asks what is servable
   abbrev pub Safe : {A : Type 0} → (A → Type 0) → Outcome Scope A → Type 0
   Safe good (Through v scope left) = Single scope × good v
-  Safe good (Asked q) = IsServable q
+  Safe good (Asked q) = IsPerformable q
 
   pub safe : {A B : Type 0} (first : A → Type 0) (good : B → Type 0) (o : Outcome Scope A) (f : A → Eval Scope B) → Safe first o → ((v : A) (sc : Scope) (l : Left) → Single sc → first v → Safe good (f v sc l)) → Safe good (and_then o f)
   safe first good (Through v sc l) f s g = g v sc l s.0 s.1
   safe first good (Asked q) f s g = s
 
-  pub ask-safe : (q : Request) (sc : Scope) (l : Left) → Single sc → IsServable q → Safe (λ g. Unit {0}) (ask q sc l)
+  pub ask-safe : (q : Request) (sc : Scope) (l : Left) → Single sc → IsPerformable q → Safe (λ g. Unit {0}) (ask q sc l)
   ask-safe q sc l s known = go l.grants
     where
       go : (gs : List Grant) → Safe (λ g. Unit {0}) (ask q sc (record { grants = gs; ticks = l.ticks }))

@@ -2,7 +2,7 @@
 use Rattle.std.proofs.Common.{◌≡◌, Bool, true, false, ◌&&◌, length, refl, ap, ◌∙◌}
 use Rattle.std.specs.Prelude.{if◌then◌else◌}
 use Rattle.cc_base.specs.Requests.{HasSites, WellFormed}
-use Rattle.cc_base.specs.Served.{AsksServed}
+use Rattle.cc_base.specs.Supported.{AsksSupported}
 use Rattle.cc_source.specs.Asks.{keeps-form, keeps-served, keeps-sites}
 use Rattle.cc_source.specs.Conversions.{and-left, and-right}
 use Rattle.cc_source.specs.Early.{early_meaning, early_sites, is_early, no_meaning}
@@ -39,16 +39,16 @@ early_form p = go (is_early p) refl
     go true e = keeps-form p (early-typed p e) (early-straight p e)
     go false e = nothing-formed
 
-nothing-served : AsksServed no_meaning
-nothing-served kind args grants exists proper = tt
+nothing-supported : AsksSupported no_meaning
+nothing-supported kind args grants exists proper = tt
 
 -- a straight program asks only what is served so far
-pub early_served : (p : Parts) → AsksServed (early_meaning p)
-early_served p = go (is_early p) refl
+pub early_supported : (p : Parts) → AsksSupported (early_meaning p)
+early_supported p = go (is_early p) refl
   where
-    go : (b : Bool) → is_early p ≡ b → AsksServed (if b then meaning p else no_meaning)
+    go : (b : Bool) → is_early p ≡ b → AsksSupported (if b then meaning p else no_meaning)
     go true e = keeps-served p (early-typed p e) (early-straight p e)
-    go false e = nothing-served
+    go false e = nothing-supported
 
 pub early_has_sites : (p : Parts) → HasSites (early_meaning p) (early_sites p)
 early_has_sites p = go (is_early p) refl

@@ -1,7 +1,8 @@
 -- What a program means.
 use Rattle.std.specs.Prelude.{ℕ, zero, suc, ◌+◌, ℤ, List, [], ◌∷◌, ◌++◌, length, map, take, drop, get_or, set, Option, Some, None, ◌&&◌, nat_eq, nat_lt, if◌then◌else◌, slice_get}
+use Rattle.cc_base.specs.Limits.{most_calls, most_cells, ticks_granted}
 use Rattle.cc_base.specs.Meaning.{Meaning}
-use Rattle.cc_base.specs.Outcome.{Outcome, Through, Asked, Eval, ◌>>=◌, ◌>>◌, Left, pure, stop, inside, tick, ticks_granted, asked_by}
+use Rattle.cc_base.specs.Outcome.{Outcome, Through, Asked, Eval, ◌>>=◌, ◌>>◌, Left, pure, stop, inside, tick, asked_by}
 use Rattle.cc_base.specs.declared.names.FaultKind.TheVariants.{Cells, Depth}
 use Rattle.cc_base.specs.declared.names.Shape.{Shape}
 use Rattle.cc_base.specs.declared.request.Grant.{Grant}
@@ -25,13 +26,6 @@ use Rattle.cc_typed.specs.declared.value.Value.{Value}
 abbrev pub zero_all : List DataType → List Value
 zero_all [] = []
 zero_all (t ∷ ts) = zero_of t ∷ zero_all ts
-
--- the most function calls that are active at once, and the most cells of active variables
-abbrev pub most_calls : ℕ
-most_calls = 1000
-
-abbrev pub most_cells : ℕ
-most_cells = 65536
 
 abbrev pub returned : DataType → Flow → Value
 returned t (Returned v) = v

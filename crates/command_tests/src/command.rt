@@ -1,5 +1,5 @@
-use crate::{Words, command_one};
 use cc_base::{Bytes, Cells, Pid};
+use cc_command::{Words, command_one};
 use cc_rules::{Event, Journal, Word};
 use cc_world::{MemShelf, MemSink, MemSource, Sink, StepClock};
 use std::alloc::Global;

@@ -1,5 +1,4 @@
-use crate::reader::read_bytes;
-use crate::{MOST_TEXT_BYTES, ReadError, read_program};
+use cc_command::{MOST_TEXT_BYTES, ReadError, read_bytes, read_program};
 use std::rt::HostRuntime;
 use std::test::Fail;
 
