@@ -49,38 +49,38 @@ module _ (s : Symbol) where
   test_2 : (is_sampled (sample_rank s) (rule s) && (is_opened (open_rank s) (rule s) && (
       takes_else (rule s) && (same_test (empty (rule s)) (nullable s) && (within (begins (rule s)) (starts s) && (
       within (starts s) (begins (rule s)) && (within (tails (rule s)) (ends s) && (nat_lt (rank s) 23 && (
-      nat_lt (sample_rank s) 17 && nat_lt (open_rank s) 19))))))))) ≡ true
+      nat_lt (sample_rank s) 17 && nat_lt (open_rank s) 20))))))))) ≡ true
   test_2 = and_second (is_plain (rank s) (rule s)) _ (tested s)
 
   test_3 : (is_opened (open_rank s) (rule s) && (
       takes_else (rule s) && (same_test (empty (rule s)) (nullable s) && (within (begins (rule s)) (starts s) && (
       within (starts s) (begins (rule s)) && (within (tails (rule s)) (ends s) && (nat_lt (rank s) 23 && (
-      nat_lt (sample_rank s) 17 && nat_lt (open_rank s) 19)))))))) ≡ true
+      nat_lt (sample_rank s) 17 && nat_lt (open_rank s) 20)))))))) ≡ true
   test_3 = and_second (is_sampled (sample_rank s) (rule s)) _ test_2
 
   test_4 : (takes_else (rule s) && (same_test (empty (rule s)) (nullable s) && (within (begins (rule s)) (starts s) && (
       within (starts s) (begins (rule s)) && (within (tails (rule s)) (ends s) && (nat_lt (rank s) 23 && (
-      nat_lt (sample_rank s) 17 && nat_lt (open_rank s) 19))))))) ≡ true
+      nat_lt (sample_rank s) 17 && nat_lt (open_rank s) 20))))))) ≡ true
   test_4 = and_second (is_opened (open_rank s) (rule s)) _ test_3
 
   test_5 : (same_test (empty (rule s)) (nullable s) && (within (begins (rule s)) (starts s) && (
       within (starts s) (begins (rule s)) && (within (tails (rule s)) (ends s) && (nat_lt (rank s) 23 && (
-      nat_lt (sample_rank s) 17 && nat_lt (open_rank s) 19)))))) ≡ true
+      nat_lt (sample_rank s) 17 && nat_lt (open_rank s) 20)))))) ≡ true
   test_5 = and_second (takes_else (rule s)) _ test_4
 
   test_6 : (within (begins (rule s)) (starts s) && (
       within (starts s) (begins (rule s)) && (within (tails (rule s)) (ends s) && (nat_lt (rank s) 23 && (
-      nat_lt (sample_rank s) 17 && nat_lt (open_rank s) 19))))) ≡ true
+      nat_lt (sample_rank s) 17 && nat_lt (open_rank s) 20))))) ≡ true
   test_6 = and_second (same_test (empty (rule s)) (nullable s)) _ test_5
 
   test_7 : (within (starts s) (begins (rule s)) && (within (tails (rule s)) (ends s) && (nat_lt (rank s) 23 && (
-      nat_lt (sample_rank s) 17 && nat_lt (open_rank s) 19)))) ≡ true
+      nat_lt (sample_rank s) 17 && nat_lt (open_rank s) 20)))) ≡ true
   test_7 = and_second (within (begins (rule s)) (starts s)) _ test_6
 
-  test_8 : (within (tails (rule s)) (ends s) && (nat_lt (rank s) 23 && (nat_lt (sample_rank s) 17 && nat_lt (open_rank s) 19))) ≡ true
+  test_8 : (within (tails (rule s)) (ends s) && (nat_lt (rank s) 23 && (nat_lt (sample_rank s) 17 && nat_lt (open_rank s) 20))) ≡ true
   test_8 = and_second (within (starts s) (begins (rule s))) _ test_7
 
-  test_9 : (nat_lt (rank s) 23 && (nat_lt (sample_rank s) 17 && nat_lt (open_rank s) 19)) ≡ true
+  test_9 : (nat_lt (rank s) 23 && (nat_lt (sample_rank s) 17 && nat_lt (open_rank s) 20)) ≡ true
   test_9 = and_second (within (tails (rule s)) (ends s)) _ test_8
 
   pub plain : Plain (rank s) (rule s)
@@ -120,5 +120,5 @@ module _ (s : Symbol) where
   pub sample_low : nat_lt (sample_rank s) 17 ≡ true
   sample_low = and_first (nat_lt (sample_rank s) 17) _ (and_second (nat_lt (rank s) 23) _ test_9)
 
-  pub open_low : open_rank s < 19
-  open_low = ltb-true (open_rank s) 19 (and_second (nat_lt (sample_rank s) 17) _ (and_second (nat_lt (rank s) 23) _ test_9))
+  pub open_low : open_rank s < 20
+  open_low = ltb-true (open_rank s) 20 (and_second (nat_lt (sample_rank s) 17) _ (and_second (nat_lt (rank s) 23) _ test_9))

@@ -228,20 +228,20 @@ module _ (rules : Symbol → Ebnf) (part : (s : Symbol) → is_part s ≡ true �
           let F : Ebnf → Type 0 = λ g. Under rules g (ref s) in
           via rules (written_below rules (inlined n) u (rule s)) (subst F (part s e) (fold_ref rules s))
 
-  inlined_above : (g : Ebnf) → Under rules g (written (inlined 6) g)
-  inlined_above g = written_above rules (inlined 6) (inlined_up 6) g
+  inlined_above : (g : Ebnf) → Under rules g (written (inlined 8) g)
+  inlined_above g = written_above rules (inlined 8) (inlined_up 8) g
 
-  inlined_below : (g : Ebnf) → Under rules (written (inlined 6) g) g
-  inlined_below g = written_below rules (inlined 6) (inlined_down 6) g
+  inlined_below : (g : Ebnf) → Under rules (written (inlined 8) g) g
+  inlined_below g = written_below rules (inlined 8) (inlined_down 8) g
 
 -- and types and parameters in either form
 module _ (rules : Symbol → Ebnf) (part : (s : Symbol) → is_part s ≡ true → rules s ≡ rule s)
     (type_up : Under rules (ref the.type) any_type) (type_down : Under rules any_type (ref the.type))
     (parameter_up : Under rules (ref the.parameter) (seq (ref the.type) name)) (parameter_down : Under rules (seq (ref the.type) name) (ref the.parameter)) where
-  written_up : (g : Ebnf) → Under rules g (written (inlined 6) g)
+  written_up : (g : Ebnf) → Under rules g (written (inlined 8) g)
   written_up g = inlined_above rules part g
 
-  written_down : (g : Ebnf) → Under rules (written (inlined 6) g) g
+  written_down : (g : Ebnf) → Under rules (written (inlined 8) g) g
   written_down g = inlined_below rules part g
 
   same : {g : Ebnf} → Under rules g g
@@ -296,7 +296,7 @@ module _ (rules : Symbol → Ebnf) (part : (s : Symbol) → is_part s ≡ true �
 
   -- the form in which an item is read, without the names of its parts
   abbrev read_item : Ebnf
-  read_item = written (inlined 6) (rule the.item)
+  read_item = written (inlined 8) (rule the.item)
 
   -- a function without its type
   before_function : {g : Ebnf} → Under rules g (key word.Void ∣ key word.Char ∣ key word.Int ∣ key word.Long) → Under rules (seq g function) read_item

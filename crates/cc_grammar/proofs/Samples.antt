@@ -222,8 +222,8 @@ opens_by (suc r) s lt d t e =
     opening (open_rank s) (λ u below. opens_by r u (omega (arith, lt, below))) (rank s) (rule s) (plain s) (opened s) d t (begins_is s (kind t) e)
 
 pub ref_opens : (d : ℕ) (s : Symbol) (t : Token) → has (starts s) (kind t) ≡ true → Begun (Phrase d (ref s)) (t ∷ [])
-ref_opens d s t e = begun_as (Phrase d (rule s)) (Phrase d (ref s)) (made s) (λ x ms f p. p_ref p) (t ∷ []) (opens_by 19 s (open_low s) d t e)
+ref_opens d s t e = begun_as (Phrase d (rule s)) (Phrase d (ref s)) (made s) (λ x ms f p. p_ref p) (t ∷ []) (opens_by 20 s (open_low s) d t e)
 
 pub nest_opens : (d : ℕ) (s : Symbol) (t : Token) → has (starts s) (kind t) ≡ true → Begun (Phrase d (nest s)) (t ∷ [])
 nest_opens d s t e =
-    begun_as (Phrase (suc d) (rule s)) (Phrase d (nest s)) (made s) (λ x ms f p. p_nest p) (t ∷ []) (opens_by 19 s (open_low s) (suc d) t e)
+    begun_as (Phrase (suc d) (rule s)) (Phrase d (nest s)) (made s) (λ x ms f p. p_nest p) (t ∷ []) (opens_by 20 s (open_low s) (suc d) t e)

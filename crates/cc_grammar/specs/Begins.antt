@@ -116,9 +116,11 @@ starts the.next_name = mark_kind mark.Comma ∷ []
 starts the.parameter_names = mark_kind mark.OpenParenthesis ∷ []
 starts the.optional_names = a_name ∷ []
 starts the.block = mark_kind mark.OpenBrace ∷ []
+starts the.closed_entries = mark_kind mark.CloseBrace ∷ entry_starts
 starts the.entries = entry_starts
 starts the.entry = entry_starts
 starts the.local = type_starts
+starts the.ended_local_declarators = a_name ∷ []
 starts the.local_declarators = a_name ∷ []
 starts the.next_local_declarator = mark_kind mark.Comma ∷ []
 starts the.local_declarator = a_name ∷ []
@@ -135,10 +137,21 @@ starts the.while_statement = word_kind word.While ∷ []
 starts the.while_loop = mark_kind mark.OpenParenthesis ∷ []
 starts the.do_statement = word_kind word.Do ∷ []
 starts the.do_loop = statement_starts
-starts the.do_condition = word_kind word.While ∷ []
+starts the.do_body = statement_starts
+starts the.ended_condition = mark_kind mark.OpenParenthesis ∷ []
 starts the.for_statement = word_kind word.For ∷ []
 starts the.for_loop = mark_kind mark.OpenParenthesis ∷ []
 starts the.for_header = mark_kind mark.OpenParenthesis ∷ []
+starts the.for_parts =
+    word_kind word.Within ∷ mark_kind mark.Minus ∷ mark_kind mark.Plus ∷ mark_kind mark.Not ∷
+    mark_kind mark.Increment ∷ mark_kind mark.Decrement ∷ a_number ∷ a_character ∷ a_name ∷ word_kind word.Create ∷
+    word_kind word.Putchar ∷ word_kind word.Getchar ∷ word_kind word.Printf ∷ mark_kind mark.OpenParenthesis ∷
+    mark_kind mark.Semicolon ∷ []
+starts the.for_rest =
+    word_kind word.Within ∷ mark_kind mark.Minus ∷ mark_kind mark.Plus ∷ mark_kind mark.Not ∷
+    mark_kind mark.Increment ∷ mark_kind mark.Decrement ∷ a_number ∷ a_character ∷ a_name ∷ word_kind word.Create ∷
+    word_kind word.Putchar ∷ word_kind word.Getchar ∷ word_kind word.Printf ∷ mark_kind mark.OpenParenthesis ∷
+    mark_kind mark.Semicolon ∷ []
 starts the.ended_optional_assign =
     word_kind word.Within ∷ mark_kind mark.Minus ∷ mark_kind mark.Plus ∷ mark_kind mark.Not ∷
     mark_kind mark.Increment ∷ mark_kind mark.Decrement ∷ a_number ∷ a_character ∷ a_name ∷ word_kind word.Create ∷
@@ -159,6 +172,9 @@ starts the.treturn_statement = word_kind word.Treturn ∷ []
 starts the.process_statement = word_kind word.Delay ∷ word_kind word.Accept ∷ word_kind word.Select ∷ []
 starts the.delay_statement = word_kind word.Delay ∷ []
 starts the.select_statement = word_kind word.Select ∷ []
+starts the.closed_alternatives =
+    mark_kind mark.OpenParenthesis ∷ word_kind word.Accept ∷ word_kind word.Delay ∷ word_kind word.Immediate ∷
+    word_kind word.Terminate ∷ []
 starts the.alternatives =
     mark_kind mark.OpenParenthesis ∷ word_kind word.Accept ∷ word_kind word.Delay ∷ word_kind word.Immediate ∷
     word_kind word.Terminate ∷ []
@@ -180,6 +196,7 @@ starts the.choice =
     word_kind word.Accept ∷ word_kind word.Delay ∷ word_kind word.Immediate ∷ word_kind word.Terminate ∷ []
 starts the.accept_choice = word_kind word.Accept ∷ []
 starts the.delay_choice = word_kind word.Delay ∷ []
+starts the.delay_rest = assign_starts
 starts the.immediate_choice = word_kind word.Immediate ∷ []
 starts the.terminate_choice = word_kind word.Terminate ∷ []
 starts the.assign = assign_starts

@@ -7,28 +7,17 @@ use Rattle.cc_lex.specs.declared.token.What.TheVariants as what
 use Rattle.cc_lex.specs.declared.token.Word.TheVariants as word
 use Rattle.cc_grammar.specs.Examples.{listed, w, m}
 use Rattle.cc_grammar.specs.Reading.{parsed}
-use Rattle.cc_grammar.specs.declared.tree.Assign.{Assign}
-use Rattle.cc_grammar.specs.declared.tree.Assign.TheVariants as assign
-use Rattle.cc_grammar.specs.declared.tree.Conditional.TheVariants as conditional
-use Rattle.cc_grammar.specs.declared.tree.Conjunction.{roll-Conjunction}
-use Rattle.cc_grammar.specs.declared.tree.Disjunction.{roll-Disjunction}
 use Rattle.cc_grammar.specs.declared.tree.Entry.TheVariants as entry
-use Rattle.cc_grammar.specs.declared.tree.Equality.{roll-Equality}
+use Rattle.cc_grammar.specs.declared.tree.Expression.{Expression}
+use Rattle.cc_grammar.specs.declared.tree.Expression.TheVariants as expression
 use Rattle.cc_grammar.specs.declared.tree.Identifier.{Identifier}
 use Rattle.cc_grammar.specs.declared.tree.Item.TheVariants as item
-use Rattle.cc_grammar.specs.declared.tree.Order.{roll-Order}
-use Rattle.cc_grammar.specs.declared.tree.Postfix.{roll-Postfix}
 use Rattle.cc_grammar.specs.declared.tree.PrefixOperator.TheVariants as prefix_operator
-use Rattle.cc_grammar.specs.declared.tree.Primary.TheVariants as primary
 use Rattle.cc_grammar.specs.declared.tree.Statement.{Statement}
 use Rattle.cc_grammar.specs.declared.tree.Statement.TheVariants as statement
-use Rattle.cc_grammar.specs.declared.tree.Sum.{Sum, roll-Sum}
 use Rattle.cc_grammar.specs.declared.tree.SumOperator.TheVariants as sum_operator
 use Rattle.cc_grammar.specs.declared.tree.SumStep.{roll-SumStep}
-use Rattle.cc_grammar.specs.declared.tree.Term.{Term, roll-Term}
 use Rattle.cc_grammar.specs.declared.tree.Tree.{Tree}
-use Rattle.cc_grammar.specs.declared.tree.Unary.{Unary}
-use Rattle.cc_grammar.specs.declared.tree.Unary.TheVariants as unary
 
 abbrev at : ℕ → Place
 at column = record { line = 1; column = column }
@@ -45,20 +34,8 @@ c = what.Name (99 ∷ [])
 abbrev called : ℕ → ℕ → Identifier
 called byte column = record { place = at column; name = byte ∷ [] }
 
-abbrev variable : ℕ → ℕ → Unary
-variable byte column = unary.Postfix (roll-Postfix (record { first = primary.Name (called byte column); steps = []; suffix = None }))
-
-abbrev term : Unary → Term
-term x = roll-Term (record { first = x; more = [] })
-
-abbrev expression : Sum → Assign
-expression x = assign.Conditional (conditional.Plain (roll-Disjunction (record {
-  first = roll-Conjunction (record { first = roll-Equality (record { first = roll-Order (record { first = x; more = [] }); more = [] }); more = [] });
-  more = [];
-})))
-
-abbrev single : Unary → Assign
-single x = expression (roll-Sum (record { first = term x; more = [] }))
+abbrev variable : ℕ → ℕ → Expression
+variable byte column = expression.Name (called byte column)
 
 -- `a() { .. }` with one statement
 abbrev in_function : Statement → Tree
@@ -74,21 +51,18 @@ abbrev row : List What
 row = function (a ∷ m mark.Minus ∷ b ∷ m mark.Minus ∷ c ∷ m mark.Semicolon ∷ m mark.CloseBrace ∷ [])
 
 abbrev row_tree : Tree
-row_tree = in_function (statement.Expression (expression (roll-Sum (record {
-  first = term (variable 97 4);
-  more =
-      roll-SumStep (record { operator = sum_operator.Minus; operand = term (variable 98 6) })
-      ∷ roll-SumStep (record { operator = sum_operator.Minus; operand = term (variable 99 8) }) ∷ [];
-}))))
+row_tree = in_function (statement.Expression (expression.Sum (variable 97 4) (
+    roll-SumStep (record { operator = sum_operator.Minus; operand = variable 98 6 })
+    ∷ roll-SumStep (record { operator = sum_operator.Minus; operand = variable 99 8 }) ∷ [])))
 
 -- a() { - ! a; }
 abbrev prefixes : List What
 prefixes = function (m mark.Minus ∷ m mark.Not ∷ a ∷ m mark.Semicolon ∷ m mark.CloseBrace ∷ [])
 
 abbrev prefixes_tree : Tree
-prefixes_tree = in_function (statement.Expression (single (
-    unary.Prefixed (record { place = at 4; operator = prefix_operator.Minus })
-    (unary.Prefixed (record { place = at 5; operator = prefix_operator.Not }) (variable 97 6)))))
+prefixes_tree = in_function (statement.Expression (
+    expression.Prefixed (record { place = at 4; operator = prefix_operator.Minus })
+    (expression.Prefixed (record { place = at 5; operator = prefix_operator.Not }) (variable 97 6))))
 
 -- a() { if (a) if (b) ; else ; }
 abbrev two_ifs : List What
@@ -98,8 +72,8 @@ two_ifs = function (
 
 abbrev two_ifs_tree : Tree
 two_ifs_tree = in_function (
-    statement.If (at 4) (single (variable 97 6))
-    (statement.IfElse (at 8) (single (variable 98 10)) (statement.Empty (at 12)) (statement.Empty (at 14))))
+    statement.If (at 4) (variable 97 6)
+    (statement.IfElse (at 8) (variable 98 10) (statement.Empty (at 12)) (statement.Empty (at 14))))
 
 -- a(void) { } and process spec b(void);
 abbrev voids : List What

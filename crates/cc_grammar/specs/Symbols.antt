@@ -49,9 +49,11 @@ pub data Symbol : Type 0 where
   parameter_names : Symbol
   optional_names : Symbol
   block : Symbol
+  closed_entries : Symbol
   entries : Symbol
   entry : Symbol
   local : Symbol
+  ended_local_declarators : Symbol
   local_declarators : Symbol
   next_local_declarator : Symbol
   local_declarator : Symbol
@@ -68,10 +70,13 @@ pub data Symbol : Type 0 where
   while_loop : Symbol
   do_statement : Symbol
   do_loop : Symbol
-  do_condition : Symbol
+  do_body : Symbol
+  ended_condition : Symbol
   for_statement : Symbol
   for_loop : Symbol
   for_header : Symbol
+  for_parts : Symbol
+  for_rest : Symbol
   ended_optional_assign : Symbol
   for_step : Symbol
   optional_assign : Symbol
@@ -83,6 +88,7 @@ pub data Symbol : Type 0 where
   process_statement : Symbol
   delay_statement : Symbol
   select_statement : Symbol
+  closed_alternatives : Symbol
   alternatives : Symbol
   next_alternative : Symbol
   accept : Symbol
@@ -98,6 +104,7 @@ pub data Symbol : Type 0 where
   choice : Symbol
   accept_choice : Symbol
   delay_choice : Symbol
+  delay_rest : Symbol
   immediate_choice : Symbol
   terminate_choice : Symbol
   assign : Symbol

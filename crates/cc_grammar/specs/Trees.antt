@@ -13,27 +13,22 @@ use Rattle.cc_grammar.specs.Symbols.{Symbol}
 use Rattle.cc_grammar.specs.Symbols as the
 use Rattle.cc_grammar.specs.declared.tree.Accept.{Accept, roll-Accept}
 use Rattle.cc_grammar.specs.declared.tree.Alternative.{Alternative, roll-Alternative}
-use Rattle.cc_grammar.specs.declared.tree.Assign.TheVariants as assign
-use Rattle.cc_grammar.specs.declared.tree.Assign.{Assign}
 use Rattle.cc_grammar.specs.declared.tree.AssignOperator.TheVariants as assign_operator
 use Rattle.cc_grammar.specs.declared.tree.AssignOperator.{AssignOperator}
 use Rattle.cc_grammar.specs.declared.tree.Choice.TheVariants as choice
 use Rattle.cc_grammar.specs.declared.tree.Choice.{Choice}
 use Rattle.cc_grammar.specs.declared.tree.Clauses.TheVariants as clauses
 use Rattle.cc_grammar.specs.declared.tree.Clauses.{Clauses}
-use Rattle.cc_grammar.specs.declared.tree.Conditional.TheVariants as conditional
-use Rattle.cc_grammar.specs.declared.tree.Conditional.{Conditional}
-use Rattle.cc_grammar.specs.declared.tree.Conjunction.{Conjunction, roll-Conjunction}
 use Rattle.cc_grammar.specs.declared.tree.Constant.{Constant}
 use Rattle.cc_grammar.specs.declared.tree.ConstantValue.{ConstantValue}
 use Rattle.cc_grammar.specs.declared.tree.Declarator.{Declarator}
-use Rattle.cc_grammar.specs.declared.tree.Disjunction.{Disjunction, roll-Disjunction}
 use Rattle.cc_grammar.specs.declared.tree.Entry.TheVariants as entry
 use Rattle.cc_grammar.specs.declared.tree.Entry.{Entry}
-use Rattle.cc_grammar.specs.declared.tree.Equality.{Equality, roll-Equality}
 use Rattle.cc_grammar.specs.declared.tree.EqualityOperator.TheVariants as equality_operator
 use Rattle.cc_grammar.specs.declared.tree.EqualityOperator.{EqualityOperator}
 use Rattle.cc_grammar.specs.declared.tree.EqualityStep.{EqualityStep, roll-EqualityStep}
+use Rattle.cc_grammar.specs.declared.tree.Expression.TheVariants as expression
+use Rattle.cc_grammar.specs.declared.tree.Expression.{Expression}
 use Rattle.cc_grammar.specs.declared.tree.Field.{Field}
 use Rattle.cc_grammar.specs.declared.tree.ForHeader.{ForHeader}
 use Rattle.cc_grammar.specs.declared.tree.Format.{Format}
@@ -46,27 +41,21 @@ use Rattle.cc_grammar.specs.declared.tree.Length.{Length}
 use Rattle.cc_grammar.specs.declared.tree.Local.{Local}
 use Rattle.cc_grammar.specs.declared.tree.LocalDeclarator.TheVariants as local_declarator
 use Rattle.cc_grammar.specs.declared.tree.LocalDeclarator.{LocalDeclarator}
-use Rattle.cc_grammar.specs.declared.tree.Order.{Order, roll-Order}
 use Rattle.cc_grammar.specs.declared.tree.OrderOperator.TheVariants as order_operator
 use Rattle.cc_grammar.specs.declared.tree.OrderOperator.{OrderOperator}
 use Rattle.cc_grammar.specs.declared.tree.OrderStep.{OrderStep, roll-OrderStep}
 use Rattle.cc_grammar.specs.declared.tree.Parameter.{Parameter}
-use Rattle.cc_grammar.specs.declared.tree.Postfix.{Postfix, roll-Postfix}
 use Rattle.cc_grammar.specs.declared.tree.Prefix.{Prefix}
 use Rattle.cc_grammar.specs.declared.tree.PrefixOperator.TheVariants as prefix_operator
-use Rattle.cc_grammar.specs.declared.tree.Primary.TheVariants as primary
-use Rattle.cc_grammar.specs.declared.tree.Primary.{Primary}
 use Rattle.cc_grammar.specs.declared.tree.Statement.TheVariants as statement
 use Rattle.cc_grammar.specs.declared.tree.Statement.{Statement}
 use Rattle.cc_grammar.specs.declared.tree.Step.TheVariants as step
 use Rattle.cc_grammar.specs.declared.tree.Step.{Step}
 use Rattle.cc_grammar.specs.declared.tree.SuffixOperator.TheVariants as suffix_operator
 use Rattle.cc_grammar.specs.declared.tree.SuffixOperator.{SuffixOperator}
-use Rattle.cc_grammar.specs.declared.tree.Sum.{Sum, roll-Sum}
 use Rattle.cc_grammar.specs.declared.tree.SumOperator.TheVariants as sum_operator
 use Rattle.cc_grammar.specs.declared.tree.SumOperator.{SumOperator}
 use Rattle.cc_grammar.specs.declared.tree.SumStep.{SumStep, roll-SumStep}
-use Rattle.cc_grammar.specs.declared.tree.Term.{Term, roll-Term}
 use Rattle.cc_grammar.specs.declared.tree.TermOperator.TheVariants as term_operator
 use Rattle.cc_grammar.specs.declared.tree.TermOperator.{TermOperator}
 use Rattle.cc_grammar.specs.declared.tree.TermStep.{TermStep, roll-TermStep}
@@ -75,8 +64,6 @@ use Rattle.cc_grammar.specs.declared.tree.TransactionParameter.{TransactionParam
 use Rattle.cc_grammar.specs.declared.tree.Tree.{Tree}
 use Rattle.cc_grammar.specs.declared.tree.TypeName.TheVariants as type_name
 use Rattle.cc_grammar.specs.declared.tree.TypeName.{TypeName}
-use Rattle.cc_grammar.specs.declared.tree.Unary.TheVariants as unary
-use Rattle.cc_grammar.specs.declared.tree.Unary.{Unary}
 
 abbrev pub TreeOf : Symbol → Type 0
 TreeOf the.text = Tree
@@ -128,32 +115,37 @@ TreeOf the.next_name = Identifier
 TreeOf the.parameter_names = List Identifier
 TreeOf the.optional_names = List Identifier
 TreeOf the.block = List Entry
+TreeOf the.closed_entries = List Entry
 TreeOf the.entries = List Entry
 TreeOf the.entry = Entry
 TreeOf the.local = Local
+TreeOf the.ended_local_declarators = List LocalDeclarator
 TreeOf the.local_declarators = List LocalDeclarator
 TreeOf the.next_local_declarator = LocalDeclarator
 TreeOf the.local_declarator = LocalDeclarator
-TreeOf the.initialiser = Assign
+TreeOf the.initialiser = Expression
 TreeOf the.statement = Statement
 TreeOf the.expression_statement = Statement
-TreeOf the.ended_assign = Assign
+TreeOf the.ended_assign = Expression
 TreeOf the.control_statement = Statement
 TreeOf the.if_statement = Statement
-TreeOf the.condition = Assign
+TreeOf the.condition = Expression
 TreeOf the.branches = Statement × Option Statement
 TreeOf the.otherwise = Statement
 TreeOf the.while_statement = Statement
-TreeOf the.while_loop = Assign × Statement
+TreeOf the.while_loop = Expression × Statement
 TreeOf the.do_statement = Statement
-TreeOf the.do_loop = Statement × Assign
-TreeOf the.do_condition = Assign
+TreeOf the.do_loop = Statement × Expression
+TreeOf the.do_body = Statement
+TreeOf the.ended_condition = Expression
 TreeOf the.for_statement = Statement
 TreeOf the.for_loop = ForHeader × Statement
 TreeOf the.for_header = ForHeader
-TreeOf the.ended_optional_assign = Option Assign
-TreeOf the.for_step = Option Assign
-TreeOf the.optional_assign = Option Assign
+TreeOf the.for_parts = ForHeader
+TreeOf the.for_rest = Option Expression × Option Expression
+TreeOf the.ended_optional_assign = Option Expression
+TreeOf the.for_step = Option Expression
+TreeOf the.optional_assign = Option Expression
 TreeOf the.jump_statement = Statement
 TreeOf the.break_statement = Statement
 TreeOf the.continue_statement = Statement
@@ -162,6 +154,7 @@ TreeOf the.treturn_statement = Statement
 TreeOf the.process_statement = Statement
 TreeOf the.delay_statement = Statement
 TreeOf the.select_statement = Statement
+TreeOf the.closed_alternatives = List Alternative
 TreeOf the.alternatives = List Alternative
 TreeOf the.next_alternative = Alternative
 TreeOf the.accept = Accept
@@ -170,66 +163,67 @@ TreeOf the.accept_rest = Clauses × Option (List Entry)
 TreeOf the.optional_clauses = Clauses
 TreeOf the.accept_block = Option (List Entry)
 TreeOf the.clauses = Clauses
-TreeOf the.such = Assign
-TreeOf the.least = Assign
+TreeOf the.such = Expression
+TreeOf the.least = Expression
 TreeOf the.alternative = Alternative
-TreeOf the.guard = Assign
+TreeOf the.guard = Expression
 TreeOf the.choice = Choice
 TreeOf the.accept_choice = Choice
 TreeOf the.delay_choice = Choice
+TreeOf the.delay_rest = Expression × List Entry
 TreeOf the.immediate_choice = Choice
 TreeOf the.terminate_choice = Choice
-TreeOf the.assign = Assign
-TreeOf the.timed = Assign
-TreeOf the.timed_rest = Disjunction × Postfix × Assign
-TreeOf the.wait = Disjunction
-TreeOf the.timed_postfix = Postfix
-TreeOf the.untimed = Assign
-TreeOf the.store = AssignOperator × Assign
+TreeOf the.assign = Expression
+TreeOf the.timed = Expression
+TreeOf the.timed_rest = Expression × Expression × Expression
+TreeOf the.wait = Expression
+TreeOf the.timed_postfix = Expression
+TreeOf the.untimed = Expression
+TreeOf the.store = AssignOperator × Expression
 TreeOf the.assign_operator = AssignOperator
-TreeOf the.conditional = Conditional
-TreeOf the.arms = Assign × Conditional
-TreeOf the.then_arm = Assign
-TreeOf the.disjunction = Disjunction
-TreeOf the.next_conjunction = Conjunction
-TreeOf the.conjunction = Conjunction
-TreeOf the.next_equality = Equality
-TreeOf the.equality = Equality
+TreeOf the.conditional = Expression
+TreeOf the.arms = Expression × Expression
+TreeOf the.then_arm = Expression
+TreeOf the.disjunction = Expression
+TreeOf the.next_conjunction = Expression
+TreeOf the.conjunction = Expression
+TreeOf the.next_equality = Expression
+TreeOf the.equality = Expression
 TreeOf the.equality_step = EqualityStep
 TreeOf the.equality_operator = EqualityOperator
-TreeOf the.order = Order
+TreeOf the.order = Expression
 TreeOf the.order_step = OrderStep
 TreeOf the.order_operator = OrderOperator
-TreeOf the.sum = Sum
+TreeOf the.sum = Expression
 TreeOf the.sum_step = SumStep
 TreeOf the.sum_operator = SumOperator
-TreeOf the.term = Term
+TreeOf the.term = Expression
 TreeOf the.term_step = TermStep
 TreeOf the.term_operator = TermOperator
-TreeOf the.unary = Unary
-TreeOf the.prefixed = Unary
+TreeOf the.unary = Expression
+TreeOf the.prefixed = Expression
 TreeOf the.prefix = Prefix
-TreeOf the.postfix = Postfix
+TreeOf the.postfix = Expression
 TreeOf the.step = Step
 TreeOf the.selection = Step
 TreeOf the.index = Step
-TreeOf the.index_value = Assign
+TreeOf the.index_value = Expression
 TreeOf the.optional_suffix = Option SuffixOperator
 TreeOf the.suffix = SuffixOperator
-TreeOf the.primary = Primary
-TreeOf the.literal = Primary
-TreeOf the.named = Primary
-TreeOf the.create = Primary
-TreeOf the.library_call = Primary
-TreeOf the.putchar = Primary
-TreeOf the.getchar = Primary
-TreeOf the.printf = Primary
-TreeOf the.format_and_arguments = Format × List Assign
-TreeOf the.parenthesised = Primary
-TreeOf the.parenthesised_value = Assign
-TreeOf the.arguments = List Assign
-TreeOf the.next_argument = Assign
-TreeOf the.argument_list = List Assign
+TreeOf the.primary = Expression
+TreeOf the.literal = Expression
+TreeOf the.named = Expression
+TreeOf the.create = Expression
+TreeOf the.library_call = Expression
+TreeOf the.putchar = Expression
+TreeOf the.getchar = Expression
+TreeOf the.printf = Expression
+TreeOf the.format_and_arguments = Format × List Expression
+TreeOf the.parenthesised = Expression
+TreeOf the.parenthesised_value = Expression
+TreeOf the.arguments = List Expression
+TreeOf the.next_argument = Expression
+TreeOf the.argument_list = List Expression
 
 -- what a form reads: of a row its parts, of a choice the way taken, and so on
 abbrev pub Value : Ebnf → Type 0
@@ -382,7 +376,7 @@ abbrev pub entry_of : Local ⊎ Statement → Entry
 entry_of (inl x) = entry.Local x
 entry_of (inr x) = entry.Statement x
 
-abbrev pub local_declarator_of : Identifier → Option (Length ⊎ Assign) → LocalDeclarator
+abbrev pub local_declarator_of : Identifier → Option (Length ⊎ Expression) → LocalDeclarator
 local_declarator_of n None = local_declarator.Plain n
 local_declarator_of n (Some (inl l)) = local_declarator.Array n l
 local_declarator_of n (Some (inr x)) = local_declarator.Value n x
@@ -412,15 +406,18 @@ process_statement_of (inl x) = x
 process_statement_of (inr (inl x)) = statement.Accept x
 process_statement_of (inr (inr x)) = x
 
-abbrev pub if_of : Place → Assign → Statement × Option Statement → Statement
+abbrev pub if_of : Place → Expression → Statement × Option Statement → Statement
 if_of p c (s, None) = statement.If p c s
 if_of p c (s, Some t) = statement.IfElse p c s t
 
-abbrev pub while_of : Place → Assign × Statement → Statement
+abbrev pub while_of : Place → Expression × Statement → Statement
 while_of p (c, s) = statement.While p c s
 
-abbrev pub do_of : Place → Statement × Assign → Statement
+abbrev pub do_of : Place → Statement × Expression → Statement
 do_of p (s, c) = statement.Do p s c
+
+abbrev pub for_header_of : Option Expression → Option Expression × Option Expression → ForHeader
+for_header_of f (c, s) = record { first = f; condition = c; step = s }
 
 abbrev pub for_of : Place → ForHeader × Statement → Statement
 for_of p (h, s) = statement.For p h s
@@ -442,6 +439,9 @@ clauses_of (inl (s, Some l)) = clauses.SuchLeast s l
 clauses_of (inr (l, None)) = clauses.Least l
 clauses_of (inr (l, Some s)) = clauses.LeastSuch l s
 
+abbrev pub delay_of : Place → Expression × List Entry → Choice
+delay_of p (w, es) = choice.Delay p w es
+
 abbrev pub choice_of : Value (rule the.choice) → Choice
 choice_of (inl x) = x
 choice_of (inr (inl x)) = x
@@ -450,14 +450,14 @@ choice_of (inr (inr (inr x))) = x
 
 -- ---- expressions
 
-abbrev pub stored : Conditional → Option (AssignOperator × Assign) → Assign
-stored c None = assign.Conditional c
-stored c (Some v) = assign.Store c v.0 v.1
+abbrev pub stored : Expression → Option (AssignOperator × Expression) → Expression
+stored x None = x
+stored x (Some v) = expression.Store x v.0 v.1
 
-abbrev pub timed_of : Place → Disjunction × Postfix × Assign → Assign
-timed_of p (w, c, x) = assign.Within p w c x
+abbrev pub timed_of : Place → Expression × Expression × Expression → Expression
+timed_of p (w, c, x) = expression.Within p w c x
 
-abbrev pub assign_of : Assign ⊎ Assign → Assign
+abbrev pub assign_of : Expression ⊎ Expression → Expression
 assign_of (inl x) = x
 assign_of (inr x) = x
 
@@ -469,9 +469,40 @@ assign_operator_of (inr (inr (inr (inl t)))) = assign_operator.Multiply
 assign_operator_of (inr (inr (inr (inr (inl t))))) = assign_operator.Divide
 assign_operator_of (inr (inr (inr (inr (inr t))))) = assign_operator.Remainder
 
-abbrev pub conditional_of : Disjunction → Option (Assign × Conditional) → Conditional
-conditional_of d None = conditional.Plain d
-conditional_of d (Some v) = conditional.Choice d v.0 v.1
+abbrev pub conditional_of : Expression → Option (Expression × Expression) → Expression
+conditional_of x None = x
+conditional_of x (Some v) = expression.Choice x v.0 v.1
+
+-- A row of one operand is that operand.
+abbrev pub disjunction_of : Expression → List Expression → Expression
+disjunction_of x [] = x
+disjunction_of x (y ∷ more) = expression.Disjunction x (y ∷ more)
+
+abbrev pub conjunction_of : Expression → List Expression → Expression
+conjunction_of x [] = x
+conjunction_of x (y ∷ more) = expression.Conjunction x (y ∷ more)
+
+abbrev pub equality_of : Expression → List EqualityStep → Expression
+equality_of x [] = x
+equality_of x (y ∷ more) = expression.Equality x (y ∷ more)
+
+abbrev pub order_of : Expression → List OrderStep → Expression
+order_of x [] = x
+order_of x (y ∷ more) = expression.Order x (y ∷ more)
+
+abbrev pub sum_of : Expression → List SumStep → Expression
+sum_of x [] = x
+sum_of x (y ∷ more) = expression.Sum x (y ∷ more)
+
+abbrev pub term_of : Expression → List TermStep → Expression
+term_of x [] = x
+term_of x (y ∷ more) = expression.Term x (y ∷ more)
+
+-- A primary expression with nothing behind it is itself.
+abbrev pub postfix_of : Expression → List Step → Option SuffixOperator → Expression
+postfix_of x [] None = x
+postfix_of x [] (Some o) = expression.Postfix x [] (Some o)
+postfix_of x (y ∷ more) o = expression.Postfix x (y ∷ more) o
 
 abbrev pub equality_operator_of : Token ⊎ Token → EqualityOperator
 equality_operator_of (inl t) = equality_operator.Equal
@@ -492,9 +523,9 @@ term_operator_of (inl t) = term_operator.Times
 term_operator_of (inr (inl t)) = term_operator.Divide
 term_operator_of (inr (inr t)) = term_operator.Remainder
 
-abbrev pub unary_of : Unary ⊎ Postfix → Unary
+abbrev pub unary_of : Expression ⊎ Expression → Expression
 unary_of (inl x) = x
-unary_of (inr x) = unary.Postfix x
+unary_of (inr x) = x
 
 abbrev pub prefix_of : Value (rule the.prefix) → Prefix
 prefix_of (inl t) = record { place = t.place; operator = prefix_operator.Minus }
@@ -503,7 +534,7 @@ prefix_of (inr (inr (inl t))) = record { place = t.place; operator = prefix_oper
 prefix_of (inr (inr (inr (inl t)))) = record { place = t.place; operator = prefix_operator.Increment }
 prefix_of (inr (inr (inr (inr t)))) = record { place = t.place; operator = prefix_operator.Decrement }
 
-abbrev pub selected : Identifier → Option (List Assign) → Step
+abbrev pub selected : Identifier → Option (List Expression) → Step
 selected n None = step.Field n
 selected n (Some xs) = step.Call n xs
 
@@ -515,23 +546,23 @@ abbrev pub suffix_of : Token ⊎ Token → SuffixOperator
 suffix_of (inl t) = suffix_operator.Increment
 suffix_of (inr t) = suffix_operator.Decrement
 
-abbrev pub named : Identifier → Option (List Assign) → Primary
-named n None = primary.Name n
-named n (Some xs) = primary.Call n xs
+abbrev pub named : Identifier → Option (List Expression) → Expression
+named n None = expression.Name n
+named n (Some xs) = expression.Call n xs
 
-abbrev pub literal_of : Token ⊎ Token → Primary
-literal_of (inl t) = primary.Number t.place (number_value t.what) (number_size t.what)
-literal_of (inr t) = primary.Character t.place (character_byte t.what)
+abbrev pub literal_of : Token ⊎ Token → Expression
+literal_of (inl t) = expression.Number t.place (number_value t.what) (number_size t.what)
+literal_of (inr t) = expression.Character t.place (character_byte t.what)
 
-abbrev pub library_call_of : Value (rule the.library_call) → Primary
+abbrev pub library_call_of : Value (rule the.library_call) → Expression
 library_call_of (inl x) = x
 library_call_of (inr (inl x)) = x
 library_call_of (inr (inr x)) = x
 
-abbrev pub printf_of : Place → Format × List Assign → Primary
-printf_of p (f, xs) = primary.Printf p f xs
+abbrev pub printf_of : Place → Format × List Expression → Expression
+printf_of p (f, xs) = expression.Printf p f xs
 
-abbrev pub primary_of : Value (rule the.primary) → Primary
+abbrev pub primary_of : Value (rule the.primary) → Expression
 primary_of (inl x) = x
 primary_of (inr (inl x)) = x
 primary_of (inr (inr (inl x))) = x
@@ -589,10 +620,12 @@ made the.names v = identifier v.0 ∷ v.1
 made the.next_name v = identifier v.1
 made the.parameter_names v = v.1.0
 made the.optional_names v = or_empty v
-made the.block v = v.1.0
+made the.block v = v.1
+made the.closed_entries v = v.0
 made the.entries v = v
 made the.entry v = entry_of v
-made the.local v = record { of = v.0; declarators = v.1.0 }
+made the.local v = record { of = v.0; declarators = v.1 }
+made the.ended_local_declarators v = v.0
 made the.local_declarators v = v.0 ∷ v.1
 made the.next_local_declarator v = v.1
 made the.local_declarator v = local_declarator_of (identifier v.0) v.1
@@ -609,10 +642,13 @@ made the.while_statement v = while_of v.0.place v.1
 made the.while_loop v = (v.0, v.1)
 made the.do_statement v = do_of v.0.place v.1
 made the.do_loop v = (v.0, v.1)
-made the.do_condition v = v.1.0
+made the.do_body v = v.0
+made the.ended_condition v = v.0
 made the.for_statement v = for_of v.0.place v.1
 made the.for_loop v = (v.0, v.1)
-made the.for_header v = record { first = v.1.0; condition = v.1.1.0; step = v.1.1.1 }
+made the.for_header v = v.1
+made the.for_parts v = for_header_of v.0 v.1
+made the.for_rest v = (v.0, v.1)
 made the.ended_optional_assign v = v.0
 made the.for_step v = v.0
 made the.optional_assign v = v
@@ -623,7 +659,8 @@ made the.return_statement v = statement.Return v.0.place v.1
 made the.treturn_statement v = statement.Treturn v.0.place v.1
 made the.process_statement v = process_statement_of v
 made the.delay_statement v = statement.Delay v.0.place v.1
-made the.select_statement v = statement.Select v.0.place v.1.1.0
+made the.select_statement v = statement.Select v.0.place v.1.1
+made the.closed_alternatives v = v.0
 made the.alternatives v = v.0 ∷ v.1
 made the.next_alternative v = v.1
 made the.accept v = accept_of v.0.place v.1.0 v.1.1
@@ -638,7 +675,8 @@ made the.alternative v = roll-Alternative (record { guard = v.0; choice = v.1 })
 made the.guard v = v.0
 made the.choice v = choice_of v
 made the.accept_choice v = choice.Accept v.0 v.1
-made the.delay_choice v = choice.Delay v.0.place v.1.0 v.1.1
+made the.delay_choice v = delay_of v.0.place v.1
+made the.delay_rest v = (v.0, v.1)
 made the.immediate_choice v = choice.Immediate v.0.place v.1.1
 made the.terminate_choice v = choice.Terminate v.0.place
 made the.assign v = assign_of v
@@ -652,26 +690,26 @@ made the.assign_operator v = assign_operator_of v
 made the.conditional v = conditional_of v.0 v.1
 made the.arms v = (v.0, v.1)
 made the.then_arm v = v.1.0
-made the.disjunction v = roll-Disjunction (record { first = v.0; more = v.1 })
+made the.disjunction v = disjunction_of v.0 v.1
 made the.next_conjunction v = v.1
-made the.conjunction v = roll-Conjunction (record { first = v.0; more = v.1 })
+made the.conjunction v = conjunction_of v.0 v.1
 made the.next_equality v = v.1
-made the.equality v = roll-Equality (record { first = v.0; more = v.1 })
+made the.equality v = equality_of v.0 v.1
 made the.equality_step v = roll-EqualityStep (record { operator = v.0; operand = v.1 })
 made the.equality_operator v = equality_operator_of v
-made the.order v = roll-Order (record { first = v.0; more = v.1 })
+made the.order v = order_of v.0 v.1
 made the.order_step v = roll-OrderStep (record { operator = v.0; operand = v.1 })
 made the.order_operator v = order_operator_of v
-made the.sum v = roll-Sum (record { first = v.0; more = v.1 })
+made the.sum v = sum_of v.0 v.1
 made the.sum_step v = roll-SumStep (record { operator = v.0; operand = v.1 })
 made the.sum_operator v = sum_operator_of v
-made the.term v = roll-Term (record { first = v.0; more = v.1 })
+made the.term v = term_of v.0 v.1
 made the.term_step v = roll-TermStep (record { operator = v.0; operand = v.1 })
 made the.term_operator v = term_operator_of v
 made the.unary v = unary_of v
-made the.prefixed v = unary.Prefixed v.0 v.1
+made the.prefixed v = expression.Prefixed v.0 v.1
 made the.prefix v = prefix_of v
-made the.postfix v = roll-Postfix (record { first = v.0; steps = v.1.0; suffix = v.1.1 })
+made the.postfix v = postfix_of v.0 v.1.0 v.1.1
 made the.step v = step_of v
 made the.selection v = selected (identifier v.1.0) v.1.1
 made the.index v = step.Index v.1
@@ -681,13 +719,13 @@ made the.suffix v = suffix_of v
 made the.primary v = primary_of v
 made the.literal v = literal_of v
 made the.named v = named (identifier v.0) v.1
-made the.create v = primary.Create v.0.place (identifier v.1.0) v.1.1
+made the.create v = expression.Create v.0.place (identifier v.1.0) v.1.1
 made the.library_call v = library_call_of v
-made the.putchar v = primary.Putchar v.0.place v.1
-made the.getchar v = primary.Getchar v.0.place
+made the.putchar v = expression.Putchar v.0.place v.1
+made the.getchar v = expression.Getchar v.0.place
 made the.printf v = printf_of v.0.place v.1.1.0
 made the.format_and_arguments v = (format v.0, v.1)
-made the.parenthesised v = primary.Parenthesised v.0.place v.1
+made the.parenthesised v = expression.Parenthesised v.0.place v.1
 made the.parenthesised_value v = v.0
 made the.arguments v = listed v
 made the.next_argument v = v.1

@@ -11,13 +11,9 @@ pub use laws::{
     viable_tokens, whole_phrases,
 };
 pub use tree::{
-    Accept, Alternative, Assign, AssignOperator, Choice, Clauses, Conditional, Conjunction,
-    Constant, ConstantValue, Declarator, Disjunction, Entry, Equality, EqualityOperator,
-    EqualityStep, Field, ForHeader, Format, Function, Identifier, Item, Length, Local,
-    LocalDeclarator, Order, OrderOperator, OrderStep, Parameter, Postfix, Prefix, PrefixOperator,
-    Primary, Statement, Step, SuffixOperator, Sum, SumOperator, SumStep, Term, TermOperator,
-    TermStep, Transaction, TransactionParameter, Tree, TypeName, Unary,
+    Accept, Alternative, AssignOperator, Choice, Clauses, Constant, ConstantValue, Declarator,
+    Entry, EqualityOperator, EqualityStep, Expression, Field, ForHeader, Format, Function,
+    Identifier, Item, Length, Local, LocalDeclarator, OrderOperator, OrderStep, Parameter, Prefix,
+    PrefixOperator, Statement, Step, SuffixOperator, SumOperator, SumStep, TermOperator, TermStep,
+    Transaction, TransactionParameter, Tree, TypeName,
 };
-
-#[cfg(test)]
-mod tests;

@@ -151,7 +151,7 @@ pub struct Local {
 pub enum LocalDeclarator {
     Plain(Identifier),
     Array(Identifier, Length),
-    Value(Identifier, Assign),
+    Value(Identifier, Expression),
 }
 
 /// A statement, with the place of its first word or mark, but for a block and an expression, which have none of their own.
@@ -160,48 +160,48 @@ pub enum LocalDeclarator {
 pub enum Statement {
     Empty(Place),
     Block(Items<Entry>),
-    Expression(Assign),
+    Expression(Expression),
     If {
         place: Place,
-        condition: Assign,
+        condition: Expression,
         then: Boxed<Statement>,
     },
     IfElse {
         place: Place,
-        condition: Assign,
+        condition: Expression,
         then: Boxed<Statement>,
         otherwise: Boxed<Statement>,
     },
     While {
         place: Place,
-        condition: Assign,
+        condition: Expression,
         body: Boxed<Statement>,
     },
     Do {
         place: Place,
         body: Boxed<Statement>,
-        condition: Assign,
+        condition: Expression,
     },
     For {
         place: Place,
-        header: ForHeader,
+        header: Boxed<ForHeader>,
         body: Boxed<Statement>,
     },
     Break(Place),
     Continue(Place),
-    Return(Place, Option<Assign>),
-    Treturn(Place, Option<Assign>),
-    Delay(Place, Assign),
-    Accept(Accept),
+    Return(Place, Option<Expression>),
+    Treturn(Place, Option<Expression>),
+    Delay(Place, Expression),
+    Accept(Boxed<Accept>),
     Select(Place, Items<Alternative>),
 }
 
 /// What stands in the parentheses of a `for`.
 #[derive(Drop)]
 pub struct ForHeader {
-    pub first: Option<Assign>,
-    pub condition: Option<Assign>,
-    pub step: Option<Assign>,
+    pub first: Option<Expression>,
+    pub condition: Option<Expression>,
+    pub step: Option<Expression>,
 }
 
 /// An accept. Its block is none where a `;` stands in its place.
@@ -219,16 +219,16 @@ pub struct Accept {
 #[derive(Drop)]
 pub enum Clauses {
     None,
-    Such(Assign),
-    Least(Assign),
-    SuchLeast(Assign, Assign),
-    LeastSuch(Assign, Assign),
+    Such(Expression),
+    Least(Expression),
+    SuchLeast(Expression, Expression),
+    LeastSuch(Expression, Expression),
 }
 
 #[cycle(code)]
 #[derive(Drop)]
 pub struct Alternative {
-    pub guard: Option<Assign>,
+    pub guard: Option<Expression>,
     pub choice: Choice,
 }
 
@@ -237,27 +237,91 @@ pub struct Alternative {
 #[derive(Drop)]
 pub enum Choice {
     Accept(Accept, Items<Entry>),
-    Delay(Place, Assign, Items<Entry>),
+    Delay(Place, Expression, Items<Entry>),
     Immediate(Place, Items<Entry>),
     Terminate(Place),
 }
 
+/// An expression. A row of one operand is that operand, and a primary expression with nothing behind it is itself. What holds
+/// most is boxed, so that an expression is small.
 #[cycle(expression)]
 #[derive(Drop)]
-pub enum Assign {
+pub enum Expression {
     /// `within wait ? call : otherwise`
     Within {
         place: Place,
-        wait: Disjunction,
-        call: Postfix,
-        otherwise: Boxed<Assign>,
+        wait: Boxed<Expression>,
+        call: Boxed<Expression>,
+        otherwise: Boxed<Expression>,
     },
-    Conditional(Conditional),
+    /// `target = value`, or with another operator.
     Store {
-        target: Conditional,
+        target: Boxed<Expression>,
         operator: AssignOperator,
-        value: Boxed<Assign>,
+        value: Boxed<Expression>,
     },
+    /// `condition ? then : otherwise`
+    Choice {
+        condition: Boxed<Expression>,
+        then: Boxed<Expression>,
+        otherwise: Boxed<Expression>,
+    },
+    /// Operands of `||`.
+    Disjunction {
+        first: Boxed<Expression>,
+        more: Items<Expression>,
+    },
+    /// Operands of `&&`.
+    Conjunction {
+        first: Boxed<Expression>,
+        more: Items<Expression>,
+    },
+    /// Operands of `==` and `!=`.
+    Equality {
+        first: Boxed<Expression>,
+        more: Items<EqualityStep>,
+    },
+    /// Operands of `<`, `<=`, `>` and `>=`.
+    Order {
+        first: Boxed<Expression>,
+        more: Items<OrderStep>,
+    },
+    /// Operands of `+` and `-`.
+    Sum {
+        first: Boxed<Expression>,
+        more: Items<SumStep>,
+    },
+    /// Operands of `*`, `/` and `%`.
+    Term {
+        first: Boxed<Expression>,
+        more: Items<TermStep>,
+    },
+    Prefixed {
+        prefix: Prefix,
+        operand: Boxed<Expression>,
+    },
+    /// A primary expression, what is taken of it, and `++` or `--` behind it.
+    Postfix {
+        first: Boxed<Expression>,
+        steps: Items<Step>,
+        suffix: Option<SuffixOperator>,
+    },
+    Number {
+        place: Place,
+        value: i64,
+        size: Size,
+    },
+    Character {
+        place: Place,
+        value: u8,
+    },
+    Name(Identifier),
+    Call(Boxed<Identifier>, Items<Expression>),
+    Create(Place, Boxed<Identifier>, Items<Expression>),
+    Putchar(Place, Boxed<Expression>),
+    Getchar(Place),
+    Printf(Place, Boxed<Format>, Items<Expression>),
+    Parenthesised(Place, Boxed<Expression>),
 }
 
 #[derive(Clone, Copy, Debug, Drop, PartialEq, Eq)]
@@ -272,44 +336,9 @@ pub enum AssignOperator {
 
 #[cycle(expression)]
 #[derive(Drop)]
-pub enum Conditional {
-    Plain(Disjunction),
-    Choice {
-        condition: Disjunction,
-        then: Boxed<Assign>,
-        otherwise: Boxed<Conditional>,
-    },
-}
-
-/// Parts of `||`.
-#[cycle(expression)]
-#[derive(Drop)]
-pub struct Disjunction {
-    pub first: Conjunction,
-    pub more: Items<Conjunction>,
-}
-
-/// Parts of `&&`.
-#[cycle(expression)]
-#[derive(Drop)]
-pub struct Conjunction {
-    pub first: Equality,
-    pub more: Items<Equality>,
-}
-
-/// Parts of `==` and `!=`.
-#[cycle(expression)]
-#[derive(Drop)]
-pub struct Equality {
-    pub first: Order,
-    pub more: Items<EqualityStep>,
-}
-
-#[cycle(expression)]
-#[derive(Drop)]
 pub struct EqualityStep {
     pub operator: EqualityOperator,
-    pub operand: Order,
+    pub operand: Expression,
 }
 
 #[derive(Clone, Copy, Debug, Drop, PartialEq, Eq)]
@@ -318,19 +347,11 @@ pub enum EqualityOperator {
     NotEqual,
 }
 
-/// Parts of `<`, `<=`, `>` and `>=`.
-#[cycle(expression)]
-#[derive(Drop)]
-pub struct Order {
-    pub first: Sum,
-    pub more: Items<OrderStep>,
-}
-
 #[cycle(expression)]
 #[derive(Drop)]
 pub struct OrderStep {
     pub operator: OrderOperator,
-    pub operand: Sum,
+    pub operand: Expression,
 }
 
 #[derive(Clone, Copy, Debug, Drop, PartialEq, Eq)]
@@ -341,19 +362,11 @@ pub enum OrderOperator {
     GreaterEqual,
 }
 
-/// Parts of `+` and `-`.
-#[cycle(expression)]
-#[derive(Drop)]
-pub struct Sum {
-    pub first: Term,
-    pub more: Items<SumStep>,
-}
-
 #[cycle(expression)]
 #[derive(Drop)]
 pub struct SumStep {
     pub operator: SumOperator,
-    pub operand: Term,
+    pub operand: Expression,
 }
 
 #[derive(Clone, Copy, Debug, Drop, PartialEq, Eq)]
@@ -362,19 +375,11 @@ pub enum SumOperator {
     Minus,
 }
 
-/// Parts of `*`, `/` and `%`.
-#[cycle(expression)]
-#[derive(Drop)]
-pub struct Term {
-    pub first: Unary,
-    pub more: Items<TermStep>,
-}
-
 #[cycle(expression)]
 #[derive(Drop)]
 pub struct TermStep {
     pub operator: TermOperator,
-    pub operand: Unary,
+    pub operand: Expression,
 }
 
 #[derive(Clone, Copy, Debug, Drop, PartialEq, Eq)]
@@ -382,16 +387,6 @@ pub enum TermOperator {
     Times,
     Divide,
     Remainder,
-}
-
-#[cycle(expression)]
-#[derive(Drop)]
-pub enum Unary {
-    Prefixed {
-        prefix: Prefix,
-        operand: Boxed<Unary>,
-    },
-    Postfix(Postfix),
 }
 
 /// A prefix operator where it stands.
@@ -410,52 +405,22 @@ pub enum PrefixOperator {
     Decrement,
 }
 
-/// A primary expression, what is taken of it, and `++` or `--` behind it.
-#[cycle(expression)]
-#[derive(Drop)]
-pub struct Postfix {
-    pub first: Primary,
-    pub steps: Items<Step>,
-    pub suffix: Option<SuffixOperator>,
-}
-
+/// What is taken of an expression.
 #[cycle(expression)]
 #[derive(Drop)]
 pub enum Step {
     /// `.name`
     Field(Identifier),
     /// `.name(..)`
-    Call(Identifier, Items<Assign>),
+    Call(Boxed<Identifier>, Items<Expression>),
     /// `[..]`
-    Index(Boxed<Assign>),
+    Index(Boxed<Expression>),
 }
 
 #[derive(Clone, Copy, Debug, Drop, PartialEq, Eq)]
 pub enum SuffixOperator {
     Increment,
     Decrement,
-}
-
-/// A primary expression, with the place of its first token.
-#[cycle(expression)]
-#[derive(Drop)]
-pub enum Primary {
-    Number {
-        place: Place,
-        value: i64,
-        size: Size,
-    },
-    Character {
-        place: Place,
-        value: u8,
-    },
-    Name(Identifier),
-    Call(Identifier, Items<Assign>),
-    Create(Place, Identifier, Items<Assign>),
-    Putchar(Place, Boxed<Assign>),
-    Getchar(Place),
-    Printf(Place, Format, Items<Assign>),
-    Parenthesised(Place, Boxed<Assign>),
 }
 
 /// A string where it stands.

@@ -35,6 +35,3 @@ pub use lexing::lex;
 pub use name::Name;
 pub use token::{Mark, Size, Token, What, Word};
 pub use tokens::Tokens;
-
-#[cfg(test)]
-mod tests;

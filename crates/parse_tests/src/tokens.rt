@@ -1,5 +1,7 @@
-use crate::{LexError, Mark, Size, Token, Tokens, What, lex};
+//! Texts and their tokens, and the first faults of others.
+
 use cc_base::Place;
+use cc_lex::{LexError, Mark, Size, Token, Tokens, What, lex};
 use std::alloc::{AllocError, Global};
 use std::rt::HostRuntime;
 use std::test::*;

@@ -1,5 +1,5 @@
 use Rattle.cc_grammar.proofs.Computed as computed
-use Rattle.cc_grammar.proofs.tests.nesting_of_texts.Goals as goal
+use Rattle.parse_tests.proofs.examples.nesting_of_texts.Goals as goal
 
 pub returns : goal.returns
 returns c = computed.nesting_hold

@@ -1,5 +1,5 @@
 use Rattle.cc_grammar.proofs.Computed as computed
-use Rattle.cc_grammar.proofs.tests.trees_of_texts.Goals as goal
+use Rattle.parse_tests.proofs.examples.trees_of_texts.Goals as goal
 
 pub returns-clause-rows : goal.returns-clause-rows
 returns-clause-rows c = computed.rows

@@ -1,5 +1,5 @@
 use Rattle.cc_grammar.proofs.Computed as computed
-use Rattle.cc_grammar.proofs.tests.faults_of_texts.Goals as goal
+use Rattle.parse_tests.proofs.examples.faults_of_texts.Goals as goal
 
 pub returns-clause-items : goal.returns-clause-items
 returns-clause-items c = computed.items_hold
