@@ -1,0 +1,5 @@
+pub mod Calls
+pub mod Chains
+pub mod Choice
+pub mod Kept
+pub mod Room
