@@ -1,0 +1,4 @@
+pub mod CallsItself
+pub mod Hello
+pub mod Ranked
+pub mod TimedCall

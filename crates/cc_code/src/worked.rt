@@ -1,0 +1,46 @@
+//! The code of small programs, held against the definitions.
+ghost use Rattle.std.specs.Prelude.{◌≡◌, pos, negsuc, [], ◌∷◌, ◌++◌, Some, None};
+ghost use Rattle.cc_base.specs.declared.alternatives.Alt.TheVariants.{Accept, Terminate};
+ghost use Rattle.cc_base.specs.declared.names.FaultKind.TheVariants.{CalleeGone};
+ghost use Rattle.cc_base.specs.declared.request.Grant.TheVariants.{Go, Late, Gone, Took, Value};
+ghost use Rattle.cc_base.specs.declared.request.Request.TheVariants.{Create, Done, Fault, Print, Reply, Select, TimedCall};
+ghost use Rattle.cc_code.specs.Meaning.{act, fit};
+ghost use Rattle.cc_code.specs.Worked.CallsItself as calls_itself;
+ghost use Rattle.cc_code.specs.Worked.Hello as hello;
+ghost use Rattle.cc_code.specs.Worked.Ranked as ranked;
+ghost use Rattle.cc_code.specs.Worked.TimedCall as timed_call;
+
+/// Two bytes are printed, one after the other.
+fn bytes_are_printed_in_order()
+    ensures first { act hello.code 0 [] (Go ∷ []) ≡ Print (72 ∷ []) }
+    ensures second { act hello.code 0 [] (Go ∷ Go ∷ []) ≡ Print (105 ∷ []) }
+    ensures end { act hello.code 0 [] (Go ∷ Go ∷ Go ∷ []) ≡ Done }
+{}
+
+/// A timed call gives its value in time, and else what stands for it.
+fn a_timed_call_is_late_or_in_time()
+    ensures creates { act timed_call.code 0 [] (Go ∷ []) ≡ Create 1 [] }
+    ensures calls { act timed_call.code 0 [] timed_call.until_called ≡ TimedCall (record { 0 = 1 }) 0 [] (pos 0) }
+    ensures in_time { act timed_call.code 0 [] (timed_call.until_called ++ Value (pos 1 ∷ []) ∷ []) ≡ Print (49 ∷ []) }
+    ensures late { act timed_call.code 0 [] (timed_call.until_called ++ Late ∷ []) ≡ Print (55 ∷ []) }
+    ensures gone { act timed_call.code 0 [] (timed_call.until_called ++ Gone ∷ []) ≡ Fault CalleeGone }
+    ensures accepts { act timed_call.code 1 [] (Go ∷ []) ≡ Select ((0, Accept 0 0 []) ∷ []) }
+    ensures replies { act timed_call.code 1 [] (Go ∷ Took 0 [] ∷ []) ≡ Reply (pos 1 ∷ []) }
+    ensures ends { act timed_call.code 1 [] (Go ∷ Took 0 [] ∷ Go ∷ []) ≡ Done }
+{}
+
+/// A call fits where its clauses say so, and a fault in them says no.
+fn calls_are_ranked_by_their_clauses()
+    ensures fits { fit ranked.code 0 [] (pos 5 ∷ []) ≡ Some (negsuc 4) }
+    ensures none { fit ranked.code 0 [] (pos 11 ∷ []) ≡ None }
+    ensures faults { fit ranked.code 0 [] (pos 0 ∷ []) ≡ None }
+    ensures other_cells { fit ranked.code 0 [] [] ≡ None }
+    ensures no_site { fit ranked.code 1 [] (pos 5 ∷ []) ≡ None }
+    ensures opens { act ranked.code 1 [] (Go ∷ []) ≡ Select ((0, Accept 0 0 []) ∷ (1, Terminate) ∷ []) }
+{}
+
+/// A function that calls itself comes back from each call.
+fn a_function_comes_back()
+    ensures prints { act calls_itself.code 0 [] (Go ∷ []) ≡ Print (65 ∷ []) }
+    ensures ends { act calls_itself.code 0 [] (Go ∷ Go ∷ []) ≡ Done }
+{}
