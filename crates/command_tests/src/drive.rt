@@ -1,6 +1,10 @@
-use cc_base::{Bytes, CallId, Cells, FaultKind, Memory, Pid};
+ghost use Rattle.cc_base.specs.Supported.{AsksSupported};
+ghost use Rattle.std.specs.Prelude.{◌≡◌};
+
+use cc_base::{Behave, Bytes, CallId, Cells, FaultKind, Memory, Pid};
+use cc_kernel::Kernel;
 use cc_pool::{Driven, Stop, drive};
-use cc_rules::{Event, Journal, Standing, Word};
+use cc_rules::{Event, Faults, Journal, Standing, Word};
 use cc_source::{
     AcceptPart, Argument, DataType, Early, Expression, Kind, Location, Program, ProgramParts, Site,
     Statement, Transaction,
@@ -314,6 +318,82 @@ fn two_processes_meet(rt: HostRuntime) {
     let ran = run(&rt, rt.alloc(), rendezvous(rt.alloc()), 1_000_000);
     assert!(rt; leaves(&ran, Standing::Ended { faulted: false }, b"AB", &MEETING));
     assert_eq!(rt; ran.faults.len(), 0);
+}
+
+/// The process that is ready goes on with its grant, and what it asks is done. None where none is ready.
+fn slice<B: Behave>(
+    kernel: &mut Kernel<B>,
+    alloc: Global,
+    printed: &mut Bytes,
+) -> Result<Option<Pid>, Memory>
+    requires supported { AsksSupported (B.means kernel.old.code) }
+    ensures code { kernel.new.code ≡ kernel.old.code }
+{
+    let Some((pid, mut process, grant)) = kernel.pick() else {
+        return Ok(None);
+    };
+    let request = B::go(&mut process, alloc, grant)?;
+    kernel.prepare(Some(&request))?;
+    let bytes = kernel.commit(pid, process, request);
+    printed.append(bytes.as_slice())?;
+    Ok(Some(pid))
+}
+
+/// Whether these processes go on, one after the other.
+fn go_on<B: Behave>(
+    kernel: &mut Kernel<B>,
+    alloc: Global,
+    printed: &mut Bytes,
+    pids: &[u32],
+) -> Result<bool, Memory>
+    requires supported { AsksSupported (B.means kernel.old.code) }
+{
+    for pid in pids {
+        if slice(kernel, alloc, printed)? != Some(Pid(*pid)) {
+            return Ok(false);
+        }
+    }
+    Ok(true)
+}
+
+/// What a kernel driven by hand leaves.
+#[derive(Drop)]
+struct Hand {
+    before: Standing,
+    went: bool,
+    after: Standing,
+    printed: Bytes,
+    journal: Journal,
+    faults: Faults,
+}
+
+/// A kernel of this program with 8 turns, of which these processes take one each.
+fn by_hand(alloc: Global, code: Arc<Early>, pids: &[u32]) -> Result<Hand, Memory> {
+    let mut kernel = Kernel::open(alloc, code, Bytes::new(alloc), 8)?;
+    let before = kernel.state();
+    let mut printed = Bytes::new(alloc);
+    let went = go_on(&mut kernel, alloc, &mut printed, pids)?;
+    let after = kernel.state();
+    let (journal, faults) = kernel.into_journal();
+    Ok(Hand {
+        before,
+        went,
+        after,
+        printed,
+        journal,
+        faults,
+    })
+}
+
+#[test]
+fn a_kernel_of_two_processes_is_driven_by_hand(rt: HostRuntime) {
+    let code = straight(&rt, rt.alloc(), rendezvous(rt.alloc()));
+    let hand = by_hand(rt.alloc(), code, &[0, 0, 1, 1, 1, 0, 0, 1]).expect(&rt, "memory");
+    assert!(rt; hand.before == Standing::Going && hand.went);
+    assert!(rt; hand.after == Standing::Ended { faulted: false });
+    assert!(rt; hand.printed.as_slice() == b"AB".as_slice());
+    assert!(rt; has_events(&hand.journal, &MEETING));
+    assert_eq!(rt; hand.faults.len(), 0);
 }
 
 #[test]
