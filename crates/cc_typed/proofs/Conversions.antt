@@ -1,32 +1,51 @@
 -- The reading of a format, a byte at a time.
-use Rattle.std.proofs.Common.{◌≡◌, ℕ, ◌∷◌, List, [], refl}
-use Rattle.std.specs.Prelude.{if◌then◌else◌, nat_eq, ◌+◌, Some, None}
-use Rattle.cc_typed.specs.Formats.{conversions, conversions_long, conversions_signed, is_conversion}
+use Rattle.std.proofs.Common.{◌≡◌, ℕ, ◌+◌, Bool, true, false, ◌&&◌, ◌||◌, ◌∷◌, List, [], refl, ap, arith}
+use Rattle.std.specs.Prelude.{if◌then◌else◌, nat_eq}
+use Rattle.cc_base.specs.Formats.{conversions, conversions_after_percent, conversions_after_percent_l, is_format, is_format_after_percent, is_format_after_percent_l}
 
-pub read-Plain : (n b : ℕ) (rest : List ℕ) → conversions n (b ∷ rest) ≡ (if nat_eq b 37 then conversions_signed n rest else conversions n rest)
+pub format-plain : (b : ℕ) (rest : List ℕ) → is_format (b ∷ rest) ≡ (if nat_eq b 37 then is_format_after_percent rest else is_format rest)
+unfolding is_format
+format-plain b rest = refl
+
+pub format-signed : (b : ℕ) (rest : List ℕ) → is_format_after_percent (b ∷ rest) ≡ (if nat_eq b 37 || nat_eq b 100 || nat_eq b 99 then is_format rest else nat_eq b 108 && is_format_after_percent_l rest)
+unfolding is_format
+format-signed b rest = refl
+
+pub format-long : (b : ℕ) (rest : List ℕ) → is_format_after_percent_l (b ∷ rest) ≡ (nat_eq b 100 && is_format rest)
+unfolding is_format
+format-long b rest = refl
+
+pub count-plain : (b : ℕ) (rest : List ℕ) → conversions (b ∷ rest) ≡ (if nat_eq b 37 then conversions_after_percent rest else conversions rest)
 unfolding conversions
-read-Plain n b rest = refl
+count-plain b rest = refl
 
-pub read-Signed : (n b : ℕ) (rest : List ℕ) → conversions_signed n (b ∷ rest) ≡ (if nat_eq b 37 then conversions n rest else (if is_conversion b then conversions (n + 1) rest else (if nat_eq b 108 then conversions_long n rest else None)))
+pub count-signed : (b : ℕ) (rest : List ℕ) → conversions_after_percent (b ∷ rest) ≡ (if nat_eq b 37 then conversions rest else (if nat_eq b 100 then conversions rest + 1 else (if nat_eq b 99 then conversions rest + 1 else (if nat_eq b 108 then conversions_after_percent_l rest else conversions rest))))
 unfolding conversions
-read-Signed n b rest = refl
+count-signed b rest = refl
 
-pub read-Long : (n b : ℕ) (rest : List ℕ) → conversions_long n (b ∷ rest) ≡ (if nat_eq b 100 then conversions (n + 1) rest else None)
+pub count-long : (b : ℕ) (rest : List ℕ) → conversions_after_percent_l (b ∷ rest) ≡ (if nat_eq b 100 then conversions rest + 1 else (if nat_eq b 37 then conversions_after_percent rest else conversions rest))
 unfolding conversions
-read-Long n b rest = refl
+count-long b rest = refl
 
-pub ruleset readings = (read-Plain, read-Signed, read-Long)
+pub one-more : (n c : ℕ) → n + 1 + c ≡ n + (c + 1)
+one-more n c = omega arith
 
-pub end-Plain : (n : ℕ) → conversions n [] ≡ Some n
+pub ruleset readings = (format-plain, format-signed, format-long, count-plain, count-signed, count-long, one-more)
+
+pub format-end : is_format [] ≡ true
+unfolding is_format
+format-end = refl
+
+pub format-end-signed : is_format_after_percent [] ≡ false
+unfolding is_format
+format-end-signed = refl
+
+pub format-end-long : is_format_after_percent_l [] ≡ false
+unfolding is_format
+format-end-long = refl
+
+pub count-end : conversions [] ≡ 0
 unfolding conversions
-end-Plain n = refl
+count-end = refl
 
-pub end-Signed : (n : ℕ) → conversions_signed n [] ≡ None
-unfolding conversions
-end-Signed n = refl
-
-pub end-Long : (n : ℕ) → conversions_long n [] ≡ None
-unfolding conversions
-end-Long n = refl
-
-pub ruleset ends = (end-Plain, end-Signed, end-Long)
+pub ruleset ends = (format-end, format-end-signed, format-end-long, count-end)

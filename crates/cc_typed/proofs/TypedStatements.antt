@@ -1,15 +1,16 @@
 -- Which statements are typed, by the names that the code has.
-use Rattle.std.proofs.Common.{◌≡◌, ℕ, true, false, not, ◌&&◌, ◌||◌, List, [], ◌∷◌, Option, refl, ap, ◌∙◌}
+use Rattle.std.proofs.Common.{◌≡◌, ℕ, suc, length, true, false, not, ◌&&◌, ◌||◌, List, [], ◌∷◌, Option, refl, ap, ◌∙◌}
 use Rattle.std.specs.List.{list_all}
-use Rattle.std.specs.Prelude.{slice_get}
+use Rattle.std.specs.Prelude.{nat_le, slice_get}
+use Rattle.cc_typed.specs.Parting.{is_of_type}
 use Rattle.cc_typed.specs.Sequences.{is_empty}
-use Rattle.cc_typed.specs.Typed.{Surroundings, are_typed_alternatives, are_typed_statements, in_accept, inside_loop, is_accepted, is_body, is_empty_row, is_finish, is_given, is_number, is_number_option, is_of_type, is_outside, is_process_body, is_terminate, is_typed, is_typed_choice, is_typed_option, is_typed_statement}
+use Rattle.cc_typed.specs.Typed.{Surroundings, are_typed_alternatives, are_typed_statements, count_alternatives, in_accept, inside_loop, is_accepted, is_body, is_empty_row, is_finish, is_given, is_number, is_number_option, is_outside, is_process_body, is_terminate, is_typed, is_typed_choice, is_typed_option, is_typed_statement, most_things}
 use Rattle.cc_typed.specs.TypedLists.{is_typed_alternative}
 use Rattle.cc_typed.specs.Types.{is_assignable, type_of}
 use Rattle.cc_typed.specs.declared.tree.AcceptPart.{AcceptPart}
 use Rattle.cc_typed.specs.declared.tree.Alternative.{Alternative}
 use Rattle.cc_typed.specs.declared.tree.Choice.{Accept as AcceptChoice, Delay as DelayChoice, Immediate, Terminate}
-use Rattle.cc_typed.specs.declared.tree.DataType.{DataType}
+use Rattle.cc_typed.specs.declared.types.DataType.{DataType}
 use Rattle.cc_typed.specs.declared.tree.Expression.{Expression}
 use Rattle.cc_typed.specs.declared.tree.Statement.{Statement, Empty, Evaluate, Declare, Initialize, Block, If, IfElse, While, DoWhile, For, Break, Continue, Return, Finish, TransactionReturn, Delay, Accept, Select, Row_of-Statement, end_of-Statement, more_of-Statement, items-the_row-Statement, items_hidden-the_row-Statement-0}
 use Rattle.cc_typed.specs.declared.tree.Choice.TheBlock as S
@@ -37,6 +38,11 @@ alternatives-hidden s (a ∷ rest) =
     ap (λ x. (is_number_option s a.guard && is_typed_choice s a.choice && (not (is_terminate a.choice) || x) && are_typed_statements s (S.hidden-the_row-Statement-0 a.entries)) && are_typed_alternatives s (S.hidden-the_row-Alternative-2 rest)) (empty-hidden a.entries)
     ∙ ap (λ x. (is_number_option s a.guard && is_typed_choice s a.choice && (not (is_terminate a.choice) || is_empty a.entries) && x) && are_typed_alternatives s (S.hidden-the_row-Alternative-2 rest)) (statements-hidden s a.entries)
     ∙ ap (λ x. is_typed_alternative s a && x) (alternatives-hidden s rest)
+
+count-hidden : (all : List Alternative) → count_alternatives (S.hidden-the_row-Alternative-2 all) ≡ length all
+unfolding S.hidden-the_row-Alternative-2 hidden
+count-hidden [] = refl
+count-hidden (a ∷ rest) = ap suc (count-hidden rest)
 
 pub typed-Empty : (s : Surroundings) → is_typed_statement s Empty ≡ true
 unfolding is_typed_statement
@@ -78,11 +84,11 @@ pub typed-For : (s : Surroundings) (first : Option Expression) (c : Option Expre
 unfolding is_typed_statement S.shape-the_row-Statement-1 S.hidden-the_row-Statement-1 hidden
 typed-For s first c next a = refl
 
-pub typed-Break : (s : Surroundings) → is_typed_statement s Break ≡ s.in_loop
+pub typed-Break : (s : Surroundings) → is_typed_statement s Break ≡ s.may_break
 unfolding is_typed_statement
 typed-Break s = refl
 
-pub typed-Continue : (s : Surroundings) → is_typed_statement s Continue ≡ s.in_loop
+pub typed-Continue : (s : Surroundings) → is_typed_statement s Continue ≡ s.may_continue
 unfolding is_typed_statement
 typed-Continue s = refl
 
@@ -106,9 +112,11 @@ pub typed-Accept : (s : Surroundings) (part : AcceptPart) → is_typed_statement
 unfolding is_typed_statement
 typed-Accept s part = ap (λ b. is_accepted s (slice_get s.parts.sites part.site) && b) (statements-hidden (in_accept s part.site) part.block)
 
-pub typed-Select : (s : Surroundings) (all : List Alternative) → is_typed_statement s (Select all) ≡ (is_process_body s.kind && list_all (is_typed_alternative s) all)
+pub typed-Select : (s : Surroundings) (all : List Alternative) → is_typed_statement s (Select all) ≡ (is_process_body s.kind && nat_le (length all) most_things && list_all (is_typed_alternative s) all)
 unfolding is_typed_statement
-typed-Select s all = ap (λ b. is_process_body s.kind && b) (alternatives-hidden s all)
+typed-Select s all =
+    ap (λ n. is_process_body s.kind && nat_le n most_things && are_typed_alternatives s (S.hidden-the_row-Alternative-2 all)) (count-hidden all)
+    ∙ ap (λ b. is_process_body s.kind && nat_le (length all) most_things && b) (alternatives-hidden s all)
 
 pub choice-Accept : (s : Surroundings) (part : AcceptPart) → is_typed_choice s (AcceptChoice part) ≡ (is_accepted s (slice_get s.parts.sites part.site) && list_all (is_typed_statement (in_accept s part.site)) part.block)
 unfolding is_typed_statement

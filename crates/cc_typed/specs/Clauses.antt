@@ -1,25 +1,24 @@
 -- The clauses of an accept: pure expressions, and the variables that they name.
 use Rattle.std.specs.Prelude.{ℕ, ◌-◌, Bool, true, false, ◌&&◌, ◌||◌, if◌then◌else◌, nat_eq, nat_le, nat_lt, List, [], ◌∷◌, ◌++◌, Option, None, Some}
-use Rattle.cc_typed.specs.Phrases.{field, element, negate, not_of, plus, parenthesized, choose}
+use Rattle.cc_typed.specs.Phrases.{negate, not_of, plus, parenthesized, choose}
 use Rattle.cc_typed.specs.declared.clauses.Own.{Own}
-use Rattle.cc_typed.specs.declared.tree.Expression.{Expression, Constant, Read, Arithmetic', Compare', Both', Either', end_of-Expression, more_of-Expression, Row_of-Expression, Row_of-Operation, end_of-Operation, more_of-Operation, Row_of-Compared, end_of-Compared, more_of-Compared}
-use Rattle.cc_typed.specs.declared.tree.Location.{Location, Variable}
-
--- the greatest depth of a pure expression
-abbrev pub most_depth : ℕ
-most_depth = 64
+use Rattle.cc_typed.specs.declared.tree.Expression.{Expression, Constant, Read', Arithmetic', Compare', Both', Either', end_of-Expression, more_of-Expression, Row_of-Expression, Row_of-PartStep, end_of-PartStep, more_of-PartStep, Row_of-Operation, end_of-Operation, more_of-Operation, Row_of-Compared, end_of-Compared, more_of-Compared}
+use Rattle.cc_typed.specs.declared.tree.PartStep.{PartStep, Field, Element}
 
 -- pure, and of a depth of at most n: a constant and a variable have depth 1, an index and the right operand of an operation
 -- stand one deeper
 unfoldable mutual
-  pub is_pure_place : ℕ → Location → Bool
-  is_pure_place n (Variable x t) = nat_lt 0 n
-  is_pure_place n (field l k t) = is_pure_place n l
-  is_pure_place n (element l e t) = is_pure_place n l && is_pure (n - 1) e
+  pub is_pure_part : ℕ → PartStep → Bool
+  is_pure_part n (Field k t) = true
+  is_pure_part n (Element e t) = is_pure n e
+
+  pub are_pure_parts : {m : _} → ℕ → Row_of-PartStep m → Bool
+  are_pure_parts n end_of-PartStep = true
+  are_pure_parts n (more_of-PartStep s rest) = is_pure_part n s && are_pure_parts n rest
 
   pub is_pure : ℕ → Expression → Bool
   is_pure n (Constant v t) = nat_lt 0 n
-  is_pure n (Read l) = is_pure_place n l
+  is_pure n (Read' x t _ steps u) = nat_lt 0 n && are_pure_parts (n - 1) steps
   is_pure n (negate e t) = is_pure n e
   is_pure n (not_of e) = is_pure n e
   is_pure n (plus e t) = is_pure n e
@@ -57,13 +56,16 @@ noted own seen x = if is_own own x || is_among seen x then seen else seen ++ x �
 
 -- the variables seen so far and those of a pure expression, in the order of first mention
 unfoldable mutual
-  pub place_noted : Own → List ℕ → Location → List ℕ
-  place_noted own seen (Variable x t) = noted own seen x
-  place_noted own seen (field l k t) = place_noted own seen l
-  place_noted own seen (element l e t) = all_noted own (place_noted own seen l) e
+  pub part_noted : Own → List ℕ → PartStep → List ℕ
+  part_noted own seen (Field k t) = seen
+  part_noted own seen (Element e t) = all_noted own seen e
+
+  pub parts_noted : {m : _} → Own → List ℕ → Row_of-PartStep m → List ℕ
+  parts_noted own seen end_of-PartStep = seen
+  parts_noted own seen (more_of-PartStep s rest) = parts_noted own (part_noted own seen s) rest
 
   pub all_noted : Own → List ℕ → Expression → List ℕ
-  all_noted own seen (Read l) = place_noted own seen l
+  all_noted own seen (Read' x t _ steps u) = parts_noted own (noted own seen x) steps
   all_noted own seen (negate e t) = all_noted own seen e
   all_noted own seen (not_of e) = all_noted own seen e
   all_noted own seen (plus e t) = all_noted own seen e

@@ -1,13 +1,16 @@
+pub mod Accepts
 pub mod Checked
 pub mod ClauseLists
 pub mod Clauses
 pub mod Formats
 pub mod KnownTypes
+pub mod Layout
 pub mod Missing
-pub mod Numbers
+pub mod Parting
 pub mod Parts
 pub mod Phrases
 pub mod Sequences
+pub mod Table
 pub mod Typed
 pub mod TypedLists
 pub mod Types

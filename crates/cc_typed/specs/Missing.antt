@@ -1,6 +1,7 @@
 -- What a site, a transaction or a kind has that may be missing.
 use Rattle.std.specs.Prelude.{ℕ, List, [], Option, Some, None}
-use Rattle.cc_typed.specs.declared.tree.DataType.{DataType, Void}
+use Rattle.cc_typed.specs.declared.types.DataType.{DataType}
+use Rattle.cc_typed.specs.declared.types.DataType.TheVariants.{Void}
 use Rattle.cc_typed.specs.declared.tree.Kind.{Kind}
 use Rattle.cc_typed.specs.declared.tree.Site.{Site}
 use Rattle.cc_typed.specs.declared.tree.Transaction.{Transaction}

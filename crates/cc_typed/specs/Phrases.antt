@@ -1,33 +1,17 @@
 -- The phrases that hold other phrases, as patterns.
-use Rattle.std.specs.Prelude.{ℕ, Option}
-use Rattle.cc_typed.specs.declared.tree.DataType.{DataType, Array', end_of-DataType, more_of-DataType}
-use Rattle.cc_typed.specs.declared.tree.Expression.{Expression, FieldOf', ElementOf', Negate', Not', Plus', Parenthesized', Choose', Assign', Update', PutChar', end_of-Expression, more_of-Expression}
-use Rattle.cc_typed.specs.declared.tree.Location.{Location, Field', Element', end_of-Location, more_of-Location}
-use Rattle.cc_typed.specs.declared.tree.Operator.{Operator}
+use Rattle.std.specs.Prelude.{Option}
+use Rattle.cc_base.specs.declared.numbers.NumberType.{NumberType}
+use Rattle.cc_typed.specs.declared.tree.Expression.{Expression, Negate', Not', Plus', Parenthesized', Choose', PutChar', end_of-Expression, more_of-Expression}
 use Rattle.cc_typed.specs.declared.tree.Statement.{Statement, If', IfElse', While', DoWhile', For', end_of-Statement, more_of-Statement}
+use Rattle.cc_typed.specs.declared.types.DataType.{DataType}
 
-pattern abbrev pub array : DataType → ℕ → DataType
-array t n = Array' tt (more_of-DataType t end_of-DataType) n
-
-pattern abbrev pub field : Location → ℕ → DataType → Location
-field l k t = Field' tt (more_of-Location l end_of-Location) k t
-
-pattern abbrev pub element : Location → Expression → DataType → Location
-element l e t = Element' tt (more_of-Location l end_of-Location) tt (more_of-Expression e end_of-Expression) t
-
-pattern abbrev pub field_of : Expression → ℕ → DataType → Expression
-field_of e k t = FieldOf' tt (more_of-Expression e end_of-Expression) k t
-
-pattern abbrev pub element_of : Expression → Expression → DataType → Expression
-element_of e i t = ElementOf' tt (more_of-Expression e end_of-Expression) tt (more_of-Expression i end_of-Expression) t
-
-pattern abbrev pub negate : Expression → DataType → Expression
+pattern abbrev pub negate : Expression → NumberType → Expression
 negate e t = Negate' tt (more_of-Expression e end_of-Expression) t
 
 pattern abbrev pub not_of : Expression → Expression
 not_of e = Not' tt (more_of-Expression e end_of-Expression)
 
-pattern abbrev pub plus : Expression → DataType → Expression
+pattern abbrev pub plus : Expression → NumberType → Expression
 plus e t = Plus' tt (more_of-Expression e end_of-Expression) t
 
 pattern abbrev pub parenthesized : Expression → DataType → Expression
@@ -35,12 +19,6 @@ parenthesized e t = Parenthesized' tt (more_of-Expression e end_of-Expression) t
 
 pattern abbrev pub choose : Expression → Expression → Expression → DataType → Expression
 choose c a b t = Choose' tt (more_of-Expression c end_of-Expression) tt (more_of-Expression a end_of-Expression) tt (more_of-Expression b end_of-Expression) t
-
-pattern abbrev pub assign : Location → Expression → Expression
-assign l e = Assign' l tt (more_of-Expression e end_of-Expression)
-
-pattern abbrev pub update : Location → Operator → Expression → Expression
-update l o e = Update' l o tt (more_of-Expression e end_of-Expression)
 
 pattern abbrev pub put_char : Expression → Expression
 put_char e = PutChar' tt (more_of-Expression e end_of-Expression)

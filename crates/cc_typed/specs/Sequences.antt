@@ -1,7 +1,7 @@
 -- Lists as such: an empty one, and what is left where one is cut.
 use Rattle.std.proofs.Common.{◌≡◌, ℕ, ◌+◌, ◌<◌, zero, suc, min, Bool, true, false, List, [], ◌∷◌, length, take, drop, get_or, refl, ap, sym, ◌∙◌, arith}
 use Rattle.std.proofs.Math.Seq.{drop-cons}
-use Rattle.cc_typed.specs.declared.tree.DataType.{DataType}
+use Rattle.cc_typed.specs.declared.types.DataType.{DataType}
 
 abbrev pub is_empty : {X : Type 0} → List X → Bool
 is_empty [] = true

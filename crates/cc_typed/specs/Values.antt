@@ -1,18 +1,26 @@
 -- Values and their cells.
-use Rattle.std.specs.Prelude.{ℕ, zero, suc, ◌+◌, ◌*◌, ℤ, pos, List, [], ◌∷◌, ◌++◌, replicate, take, drop, get_or, set}
-use Rattle.cc_typed.specs.Phrases.{array}
-use Rattle.cc_typed.specs.declared.tree.DataType.{DataType, Void, Char, Int, Long, Process, Struct', Row_of-DataType, end_of-DataType, more_of-DataType}
-use Rattle.cc_typed.specs.declared.value.Value.{Value, Number, Many, Many', Row_of-Value, end_of-Value, more_of-Value, items-the_row-Value}
+use Rattle.std.specs.Prelude.{ℕ, zero, suc, ◌+◌, ℤ, pos, List, [], ◌∷◌, ◌++◌, take, drop, get_or, length}
+use Rattle.cc_typed.specs.Layout.{Layout, One, Several, Layouts, no_layouts, and_layout, cells}
+
+-- a number, or the values of the parts of a structure or an array; a process is kept as a number
+mutual
+  pub data Value : Type 0 where
+    Number : ℤ → Value
+    Many : Values → Value
+
+  pub data Values : Type 0 where
+    no_values : Values
+    and_value : Value → Values → Values
 
 -- the cells of a value
 unfoldable mutual
   pub flat : Value → List ℤ
   flat (Number n) = n ∷ []
-  flat (Many' _ all) = flat_row all
+  flat (Many vs) = flat_all vs
 
-  pub flat_row : {n : _} → Row_of-Value n → List ℤ
-  flat_row end_of-Value = []
-  flat_row (more_of-Value v rest) = flat v ++ flat_row rest
+  pub flat_all : Values → List ℤ
+  flat_all no_values = []
+  flat_all (and_value v vs) = flat v ++ flat_all vs
 
 -- the cells of values in order
 abbrev pub flats : List Value → List ℤ
@@ -22,18 +30,29 @@ flats (v ∷ vs) = flat v ++ flats vs
 -- a number as it stands; no other value is used as one
 abbrev pub number : Value → ℤ
 number (Number n) = n
-number (Many' _ all) = pos 0
+number (Many vs) = pos 0
 
 abbrev pub nought : Value
 nought = Number (pos 0)
 
--- the parts of a structure or an array
-unfoldable pub parts : Value → List Value
-parts (Number n) = []
-parts (Many' _ all) = items-the_row-Value _ all
+-- the k-th of the values
+abbrev pub value_among : Values → ℕ → Value
+value_among no_values k = nought
+value_among (and_value v vs) zero = v
+value_among (and_value v vs) (suc k) = value_among vs k
 
+abbrev pub set_among : Values → ℕ → Value → Values
+set_among no_values k w = no_values
+set_among (and_value v vs) zero w = and_value w vs
+set_among (and_value v vs) (suc k) w = and_value v (set_among vs k w)
+
+abbrev pub values_in : Value → Values
+values_in (Number n) = no_values
+values_in (Many vs) = vs
+
+-- a part of a structure or an array
 abbrev pub part : Value → ℕ → Value
-part v k = get_or (parts v) k nought
+part v k = value_among (values_in v) k
 
 -- what a path leads to
 abbrev pub read : List ℕ → Value → Value
@@ -43,63 +62,58 @@ read (k ∷ path) v = read path (part v k)
 -- the value with another where the path leads
 abbrev pub store : List ℕ → Value → Value → Value
 store [] new old = new
-store (k ∷ path) new old = Many (set (parts old) k (store path new (part old k)))
+store (k ∷ path) new old = Many (set_among (values_in old) k (store path new (part old k)))
 
--- how many cells the values of a type have
+-- the zero of a layout
 unfoldable mutual
-  pub cells : DataType → ℕ
-  cells Void = 0
-  cells Char = 1
-  cells Int = 1
-  cells Long = 1
-  cells (Process kind) = 1
-  cells (Struct' number _ fields) = cells_row fields
-  cells (array t n) = n * cells t
+  pub zero_of : Layout → Value
+  zero_of One = nought
+  zero_of (Several ls) = Many (zeros_of ls)
 
-  pub cells_row : {n : _} → Row_of-DataType n → ℕ
-  cells_row end_of-DataType = 0
-  cells_row (more_of-DataType t rest) = cells t + cells_row rest
+  pub zeros_of : Layouts → Values
+  zeros_of no_layouts = no_values
+  zeros_of (and_layout l ls) = and_value (zero_of l) (zeros_of ls)
 
-abbrev pub cells_all : List DataType → ℕ
-cells_all [] = 0
-cells_all (t ∷ ts) = cells t + cells_all ts
-
--- the zero of a type; `void` has a value without cells
+-- the value of a layout that has these cells
 unfoldable mutual
-  pub zero_of : DataType → Value
-  zero_of Void = Many []
-  zero_of Char = nought
-  zero_of Int = nought
-  zero_of Long = nought
-  zero_of (Process kind) = nought
-  zero_of (Struct' number _ fields) = Many (zero_row fields)
-  zero_of (array t n) = Many (replicate n (zero_of t))
+  pub unflat : Layout → List ℤ → Value
+  unflat One cs = Number (get_or cs 0 (pos 0))
+  unflat (Several ls) cs = Many (unflat_all ls cs)
 
-  pub zero_row : {n : _} → Row_of-DataType n → List Value
-  zero_row end_of-DataType = []
-  zero_row (more_of-DataType t rest) = zero_of t ∷ zero_row rest
+  pub unflat_all : Layouts → List ℤ → Values
+  unflat_all no_layouts cs = no_values
+  unflat_all (and_layout l ls) cs = and_value (unflat l (take (cells l) cs)) (unflat_all ls (drop (cells l) cs))
 
--- n values, each of m cells
-abbrev pub each_of : ℕ → ℕ → (List ℤ → Value) → List ℤ → List Value
-each_of zero m value cs = []
-each_of (suc n) m value cs = value (take m cs) ∷ each_of n m value (drop m cs)
-
--- the value of a type that has these cells
+-- a value of this layout
 unfoldable mutual
-  pub unflat : DataType → List ℤ → Value
-  unflat Void cs = Many []
-  unflat Char cs = Number (get_or cs 0 (pos 0))
-  unflat Int cs = Number (get_or cs 0 (pos 0))
-  unflat Long cs = Number (get_or cs 0 (pos 0))
-  unflat (Process kind) cs = Number (get_or cs 0 (pos 0))
-  unflat (Struct' number _ fields) cs = Many (unflat_row fields cs)
-  unflat (array t n) cs = Many (each_of n (cells t) (unflat t) cs)
+  pub HasLayout : Layout → Value → Type 0
+  HasLayout One (Number n) = Unit {0}
+  HasLayout One (Many vs) = ⊥
+  HasLayout (Several ls) (Number n) = ⊥
+  HasLayout (Several ls) (Many vs) = HaveLayouts ls vs
 
-  pub unflat_row : {n : _} → Row_of-DataType n → List ℤ → List Value
-  unflat_row end_of-DataType cs = []
-  unflat_row (more_of-DataType t rest) cs = unflat t (take (cells t) cs) ∷ unflat_row rest (drop (cells t) cs)
+  pub HaveLayouts : Layouts → Values → Type 0
+  HaveLayouts no_layouts no_values = Unit {0}
+  HaveLayouts no_layouts (and_value v vs) = ⊥
+  HaveLayouts (and_layout l ls) no_values = ⊥
+  HaveLayouts (and_layout l ls) (and_value v vs) = HasLayout l v × HaveLayouts ls vs
 
--- the values of types, one after the other in these cells
-abbrev pub unflats : List DataType → List ℤ → List Value
+-- the values of layouts, one after the other in these cells
+abbrev pub unflats : List Layout → List ℤ → List Value
 unflats [] cs = []
-unflats (t ∷ ts) cs = unflat t (take (cells t) cs) ∷ unflats ts (drop (cells t) cs)
+unflats (l ∷ ls) cs = unflat l (take (cells l) cs) ∷ unflats ls (drop (cells l) cs)
+
+-- values of these layouts, in order
+abbrev pub AreOf : List Layout → List Value → Type 0
+AreOf [] [] = Unit {0}
+AreOf [] (v ∷ vs) = ⊥
+AreOf (l ∷ ls) [] = ⊥
+AreOf (l ∷ ls) (v ∷ vs) = HasLayout l v × AreOf ls vs
+
+-- so many cells from an offset on
+abbrev pub fetch : ℕ → ℕ → List ℤ → List ℤ
+fetch n o cs = take n (drop o cs)
+
+-- the cells with others in their place from an offset on
+abbrev pub put : ℕ → List ℤ → List ℤ → List ℤ
+put o vs cs = take o cs ++ (vs ++ drop (o + length vs) cs)

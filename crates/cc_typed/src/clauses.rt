@@ -1,9 +1,9 @@
 ghost use Rattle.std.specs.Prelude.{◌≡◌, ◌-◌, true, OnOk};
 ghost use Rattle.std.specs.List.{list_all};
-ghost use Rattle.cc_typed.specs.Clauses.{all_noted, are_numbers, clause_noted, is_among, is_own, is_pure, is_pure_place, noted, place_noted};
-ghost use Rattle.cc_typed.specs.ClauseLists.{comparisons_noted_in, operations_noted_in, row_noted_in};
+ghost use Rattle.cc_typed.specs.Clauses.{all_noted, are_numbers, clause_noted, is_among, is_own, is_pure, is_pure_part, noted, part_noted};
+ghost use Rattle.cc_typed.specs.ClauseLists.{comparisons_noted_in, operations_noted_in, parts_noted_in, row_noted_in};
 
-use crate::tree::{Compared, Expression, Location, Operation};
+use crate::tree::{Compared, Expression, Operation, PartStep};
 use sqlite_items::Items;
 use std::alloc::AllocError;
 
@@ -15,16 +15,28 @@ pub(crate) struct Own {
 }
 
 #[cycle(pure_expressions)]
-#[tactic(auto, using(crate::proofs::Pure::pure_places))]
-fn pure_place(depth: u32, place: &Location) -> bool
-    ensures { result ≡ is_pure_place depth place.now }
+#[tactic(auto, using(crate::proofs::Pure::pure_expressions))]
+fn pure_part(depth: u32, step: &PartStep) -> bool
+    ensures { result ≡ is_pure_part depth step.now }
 {
-    match place {
-        Location::Variable { .. } => 0 < depth,
-        Location::Field { of, .. } => pure_place(depth, of.get()),
-        Location::Element { of, index, .. } => pure_place(depth, of.get())
-            && pure(depth.saturating_sub(1), index.get()),
+    match step {
+        PartStep::Field { .. } => true,
+        PartStep::Element { index, .. } => pure(depth, index),
     }
+}
+
+/// Whether the indexes in steps are pure and no deeper than this.
+#[cycle(pure_expressions)]
+#[tactic(auto, using(crate::proofs::Pure::pure_expressions))]
+fn pure_parts(depth: u32, steps: &[PartStep]) -> bool
+    ensures { result ≡ list_all (is_pure_part depth) steps.now }
+{
+    for step in steps {
+        if !pure_part(depth, step) {
+            return false;
+        }
+    }
+    true
 }
 
 /// Whether an expression is pure and no deeper than this.
@@ -35,7 +47,8 @@ pub(crate) fn pure(depth: u32, e: &Expression) -> bool
 {
     match e {
         Expression::Constant { .. } => 0 < depth,
-        Expression::Read { from } => pure_place(depth, from),
+        Expression::Read { from } => 0 < depth
+            && pure_parts(depth.saturating_sub(1), from.steps.as_slice()),
         Expression::Negate { operand, .. } => pure(depth, operand.get()),
         Expression::Not { operand } => pure(depth, operand.get()),
         Expression::Plus { operand, .. } => pure(depth, operand.get()),
@@ -55,16 +68,13 @@ pub(crate) fn pure(depth: u32, e: &Expression) -> bool
             ..
         } => pure(depth, condition.get()) && pure(depth, yes.get()) && pure(depth, no.get()),
         Expression::GetChar
-        | Expression::FieldOf { .. }
-        | Expression::ElementOf { .. }
-        | Expression::StepBefore { .. }
-        | Expression::StepAfter { .. }
+        | Expression::Chain { .. }
+        | Expression::ChangeBefore { .. }
+        | Expression::ChangeAfter { .. }
         | Expression::Assign { .. }
         | Expression::Update { .. }
         | Expression::CallFunction { .. }
         | Expression::CreateProcess { .. }
-        | Expression::Transact { .. }
-        | Expression::SendTo { .. }
         | Expression::Within { .. }
         | Expression::PutChar { .. }
         | Expression::PrintFormat { .. } => false,
@@ -134,17 +144,24 @@ fn note(own: Own, seen: &mut Items<u32>, variable: u32) -> Result<(), AllocError
 
 #[cycle(noted_expressions)]
 #[tactic(auto, using(crate::proofs::Noted::noted_expressions))]
-fn note_place(own: Own, seen: &mut Items<u32>, place: &Location) -> Result<(), AllocError>
-    ensures { OnOk result (seen.new ≡ place_noted own seen.old place.now) }
+fn note_part(own: Own, seen: &mut Items<u32>, step: &PartStep) -> Result<(), AllocError>
+    ensures { OnOk result (seen.new ≡ part_noted own seen.old step.now) }
 {
-    match place {
-        Location::Variable { number, .. } => note(own, seen, *number),
-        Location::Field { of, .. } => note_place(own, seen, of.get()),
-        Location::Element { of, index, .. } => {
-            note_place(own, seen, of.get())?;
-            note_all(own, seen, index.get())
-        }
+    match step {
+        PartStep::Field { .. } => Ok(()),
+        PartStep::Element { index, .. } => note_all(own, seen, index),
     }
+}
+
+#[cycle(noted_expressions)]
+#[tactic(auto, using(crate::proofs::Noted::noted_expressions))]
+fn note_parts(own: Own, seen: &mut Items<u32>, steps: &[PartStep]) -> Result<(), AllocError>
+    ensures { OnOk result (seen.new ≡ parts_noted_in own seen.old steps.now) }
+{
+    for step in steps {
+        note_part(own, seen, step)?;
+    }
+    Ok(())
 }
 
 /// Notes the variables of a pure expression.
@@ -154,7 +171,10 @@ fn note_all(own: Own, seen: &mut Items<u32>, e: &Expression) -> Result<(), Alloc
     ensures { OnOk result (seen.new ≡ all_noted own seen.old e.now) }
 {
     match e {
-        Expression::Read { from } => note_place(own, seen, from),
+        Expression::Read { from } => {
+            note(own, seen, from.variable)?;
+            note_parts(own, seen, from.steps.as_slice())
+        }
         Expression::Negate { operand, .. } => note_all(own, seen, operand.get()),
         Expression::Not { operand } => note_all(own, seen, operand.get()),
         Expression::Plus { operand, .. } => note_all(own, seen, operand.get()),
@@ -187,16 +207,13 @@ fn note_all(own: Own, seen: &mut Items<u32>, e: &Expression) -> Result<(), Alloc
         }
         Expression::Constant { .. }
         | Expression::GetChar
-        | Expression::FieldOf { .. }
-        | Expression::ElementOf { .. }
-        | Expression::StepBefore { .. }
-        | Expression::StepAfter { .. }
+        | Expression::Chain { .. }
+        | Expression::ChangeBefore { .. }
+        | Expression::ChangeAfter { .. }
         | Expression::Assign { .. }
         | Expression::Update { .. }
         | Expression::CallFunction { .. }
         | Expression::CreateProcess { .. }
-        | Expression::Transact { .. }
-        | Expression::SendTo { .. }
         | Expression::Within { .. }
         | Expression::PutChar { .. }
         | Expression::PrintFormat { .. } => Ok(()),

@@ -1,14 +1,15 @@
-ghost use Rattle.std.specs.Prelude.{◌≡◌, ◌<◌, ◌+◌, ◌^◌, ◌≤◌, [], ◌∷◌, ℕ, List, IfSome};
-ghost use Rattle.cc_typed.specs.Formats.{conversions, conversions_after, conversions_in};
+ghost use Rattle.std.specs.Prelude.{◌≡◌, ◌<◌, ◌+◌, ◌^◌, ◌≤◌, [], ◌∷◌, ℕ, List, Some, None, IfSome, if◌then◌else◌};
+ghost use Rattle.cc_base.specs.Formats.{conversions, is_format};
+ghost use Rattle.cc_typed.specs.Formats.{numbers_after, numbers_from};
 
 /// Where the reading of a format stands.
 #[derive(Clone, Copy)]
 pub(crate) enum Reading {
     Plain,
     /// After a `%`.
-    Signed,
+    AfterPercent,
     /// After `%l`.
-    Long,
+    AfterPercentL,
 }
 
 /// Where the reading stands after one more byte, and how many conversions there are by then; none where a `%` begins no
@@ -16,25 +17,25 @@ pub(crate) enum Reading {
 #[tactic(auto, using(crate::proofs::Conversions::readings))]
 fn read_byte(reading: Reading, count: usize, byte: u8) -> Option<(Reading, usize)>
     requires { count + 1 < 2 ^ 64 }
-    ensures more { (rest : List ℕ) → conversions_in reading count (byte ∷ rest) ≡ conversions_after result rest }
+    ensures more { (rest : List ℕ) → numbers_from reading count (byte ∷ rest) ≡ numbers_after result rest }
     ensures few { IfSome result (λ step. step.1 ≤ count + 1) }
 {
     match reading {
         Reading::Plain => if byte == b'%' {
-            Some((Reading::Signed, count))
+            Some((Reading::AfterPercent, count))
         } else {
             Some((Reading::Plain, count))
         },
-        Reading::Signed => if byte == b'%' {
+        Reading::AfterPercent => if byte == b'%' {
             Some((Reading::Plain, count))
         } else if byte == b'd' || byte == b'c' {
             Some((Reading::Plain, count + 1))
         } else if byte == b'l' {
-            Some((Reading::Long, count))
+            Some((Reading::AfterPercentL, count))
         } else {
             None
         },
-        Reading::Long => if byte == b'd' {
+        Reading::AfterPercentL => if byte == b'd' {
             Some((Reading::Plain, count + 1))
         } else {
             None
@@ -45,19 +46,19 @@ fn read_byte(reading: Reading, count: usize, byte: u8) -> Option<(Reading, usize
 /// How many conversions there are where the format ends here.
 #[tactic(auto, using(crate::proofs::Conversions::ends))]
 fn read_end(reading: Reading, count: usize) -> Option<usize>
-    ensures { result ≡ conversions_in reading count [] }
+    ensures { result ≡ numbers_from reading count [] }
 {
     match reading {
         Reading::Plain => Some(count),
-        Reading::Signed => None,
-        Reading::Long => None,
+        Reading::AfterPercent => None,
+        Reading::AfterPercentL => None,
     }
 }
 
 /// How many numbers a format takes; none where a `%` begins no conversion.
 #[tactic(auto, using(crate::proofs::Conversions::readings, crate::proofs::Conversions::ends))]
-pub(crate) fn conversions(format: &[u8]) -> Option<usize>
-    ensures { result ≡ conversions 0 format.now }
+pub(crate) fn numbers(format: &[u8]) -> Option<usize>
+    ensures { result ≡ (if is_format format.now then Some (conversions format.now) else None) }
 {
     let mut reading = Reading::Plain;
     let mut count = 0;

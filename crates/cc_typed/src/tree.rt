@@ -1,96 +1,64 @@
 ghost use Rattle.std.specs.Prelude.{◌≡◌};
-ghost use Rattle.cc_typed.specs.Types.{type_at};
+ghost use Rattle.cc_typed.specs.Types.{type_after, type_after_step, type_of};
 
+use crate::types::DataType;
+use cc_base::{Comparison, NumberType, Operator};
 use sqlite_items::{Boxed, Items};
-
-/// A type. Two structures are the same where their declarations are, which have numbers.
-#[derive(Drop)]
-pub enum DataType {
-    Void,
-    /// 0 to 255.
-    Char,
-    /// 32 bits, signed.
-    Int,
-    /// 64 bits, signed.
-    Long,
-    /// Processes of this kind.
-    Process {
-        kind: u32,
-    },
-    /// The structure of this number, with the types of its fields.
-    Struct {
-        number: u32,
-        fields: Items<DataType>,
-    },
-    Array {
-        element: Boxed<DataType>,
-        length: u32,
-    },
-}
-
-/// The operator of an arithmetic operation, or of an assignment `a op= b`.
-#[derive(Clone, Copy, Debug, Drop, PartialEq, Eq)]
-pub enum Operator {
-    Add,
-    Subtract,
-    Multiply,
-    Divide,
-    Remainder,
-}
-
-#[derive(Clone, Copy, Debug, Drop, PartialEq, Eq)]
-pub enum Comparison {
-    Less,
-    AtMost,
-    Greater,
-    AtLeast,
-    Equal,
-    Different,
-}
 
 /// `++` or `--`.
 #[derive(Clone, Copy, Debug, Drop, PartialEq, Eq)]
-pub enum Step {
+pub enum Change {
     Up,
     Down,
 }
 
-/// A place that keeps a value: a variable, or a part of such a place. It has its type.
+/// A step from a value to a part of it, with the type of the part.
 #[cycle(expressions)]
 #[derive(Drop)]
-pub enum Location {
-    /// A variable by its number, which counts the parameters, variables and accepts' parameters of the function or
-    /// body, from 0, in the order declared.
-    Variable {
-        number: u32,
-        data_type: DataType,
-    },
-    /// `e.f`, by the number of the field.
+pub enum PartStep {
+    /// `.f`, by the number of the field.
     Field {
-        of: Boxed<Location>,
         field: u32,
         data_type: DataType,
     },
-    /// `e[i]`.
+    /// `[i]`.
     Element {
-        of: Boxed<Location>,
-        index: Boxed<Expression>,
+        index: Expression,
         data_type: DataType,
     },
 }
 
-impl Location {
-    /// The type of what is kept there.
-    #[tactic(auto, using(crate::proofs::PlaceTypes::place_types))]
-    pub fn data_type(&self) -> &DataType
-        ensures { result.now ≡ type_at self.now }
-    {
-        match self {
-            Location::Variable { data_type, .. } => data_type,
-            Location::Field { data_type, .. } => data_type,
-            Location::Element { data_type, .. } => data_type,
-        }
-    }
+/// A place that keeps a value: a variable with its type, and the steps from it to a part of it, which has the last type. A
+/// variable's number counts the parameters, variables and accepts' parameters of the function or body, from 0, in the order
+/// declared.
+#[cycle(expressions)]
+#[derive(Drop)]
+pub struct Location {
+    pub variable: u32,
+    pub of: DataType,
+    pub steps: Items<PartStep>,
+    pub data_type: DataType,
+}
+
+/// A step from a value to what stands after it in a chain such as `p.t(x).f[i]`.
+#[cycle(expressions)]
+#[derive(Drop)]
+pub enum ChainStep {
+    /// `.f` or `[i]`, of a value that is no place.
+    Part {
+        step: PartStep,
+    },
+    /// `.t(args)` of a synchronous transaction.
+    Call {
+        transaction: u32,
+        args: Items<Argument>,
+        data_type: DataType,
+    },
+    /// `.t(args)` of an asynchronous transaction.
+    Send {
+        transaction: u32,
+        args: Items<Argument>,
+    },
 }
 
 /// An expression, with its type where that is not plain.
@@ -100,7 +68,7 @@ pub enum Expression {
     /// A number, a character or an enumeration constant.
     Constant {
         value: i64,
-        data_type: DataType,
+        number_type: NumberType,
     },
     /// `getchar()`.
     GetChar,
@@ -108,22 +76,17 @@ pub enum Expression {
     Read {
         from: Location,
     },
-    /// `e.f`, where `e` is no place.
-    FieldOf {
-        value: Boxed<Expression>,
-        field: u32,
-        data_type: DataType,
-    },
-    /// `e[i]`, where `e` is no place.
-    ElementOf {
-        value: Boxed<Expression>,
-        index: Boxed<Expression>,
+    /// An expression with steps that go on from it: calls, and parts of values that are no places. It has the type after the
+    /// last step.
+    Chain {
+        first: Boxed<Expression>,
+        steps: Items<ChainStep>,
         data_type: DataType,
     },
     /// `-e`.
     Negate {
         operand: Boxed<Expression>,
-        data_type: DataType,
+        number_type: NumberType,
     },
     /// `!e`.
     Not {
@@ -132,7 +95,7 @@ pub enum Expression {
     /// `+e`.
     Plus {
         operand: Boxed<Expression>,
-        data_type: DataType,
+        number_type: NumberType,
     },
     /// `(e)`.
     Parenthesized {
@@ -140,20 +103,20 @@ pub enum Expression {
         data_type: DataType,
     },
     /// `++e`, `--e`.
-    StepBefore {
+    ChangeBefore {
         at: Location,
-        step: Step,
+        change: Change,
     },
     /// `e++`, `e--`.
-    StepAfter {
+    ChangeAfter {
         at: Location,
-        step: Step,
+        change: Change,
     },
     /// `a + b - c` and so on: operations in a row, which group from the left.
     Arithmetic {
         first: Boxed<Expression>,
         rest: Items<Operation>,
-        data_type: DataType,
+        number_type: NumberType,
     },
     /// `a < b` and so on: comparisons in a row, which group from the left.
     Compare {
@@ -199,19 +162,6 @@ pub enum Expression {
         kind: u32,
         args: Items<Argument>,
     },
-    /// `p.t(args)` of a synchronous transaction.
-    Transact {
-        process: Boxed<Expression>,
-        transaction: u32,
-        args: Items<Argument>,
-        data_type: DataType,
-    },
-    /// `p.t(args)` of an asynchronous transaction.
-    SendTo {
-        process: Boxed<Expression>,
-        transaction: u32,
-        args: Items<Argument>,
-    },
     /// `within d ? p.t(args) : e`.
     Within {
         wait: Boxed<Expression>,
@@ -238,7 +188,7 @@ pub enum Expression {
 pub struct Operation {
     pub operator: Operator,
     pub operand: Expression,
-    pub data_type: DataType,
+    pub number_type: NumberType,
 }
 
 /// One comparison of a row, with its right operand.
@@ -255,6 +205,66 @@ pub struct Compared {
 pub struct Argument {
     pub value: Expression,
     pub data_type: DataType,
+}
+
+impl PartStep {
+    /// The type of the part.
+    #[tactic(auto, using(crate::proofs::PhraseTypes::types_of_phrases))]
+    pub fn data_type(&self) -> DataType
+        ensures type_after { result ≡ type_after self.now }
+    {
+        match self {
+            PartStep::Field { data_type, .. } => *data_type,
+            PartStep::Element { data_type, .. } => *data_type,
+        }
+    }
+}
+
+impl ChainStep {
+    /// The type of what stands after it.
+    #[tactic(auto, using(crate::proofs::PhraseTypes::types_of_phrases))]
+    pub fn data_type(&self) -> DataType
+        ensures type_after { result ≡ type_after_step self.now }
+    {
+        match self {
+            ChainStep::Part { step } => step.data_type(),
+            ChainStep::Call { data_type, .. } => *data_type,
+            ChainStep::Send { .. } => DataType::Void,
+        }
+    }
+}
+
+impl Expression {
+    /// Its type, which it has or which follows from the phrase alone.
+    #[tactic(auto, using(crate::proofs::PhraseTypes::types_of_phrases))]
+    pub fn data_type(&self) -> DataType
+        ensures type_of { result ≡ type_of self.now }
+    {
+        match self {
+            Expression::Constant { number_type, .. } => DataType::number(*number_type),
+            Expression::Read { from } => from.data_type,
+            Expression::Chain { data_type, .. } => *data_type,
+            Expression::Negate { number_type, .. } => DataType::number(*number_type),
+            Expression::Plus { number_type, .. } => DataType::number(*number_type),
+            Expression::Parenthesized { data_type, .. } => *data_type,
+            Expression::ChangeBefore { at, .. } => at.data_type,
+            Expression::ChangeAfter { at, .. } => at.data_type,
+            Expression::Arithmetic { number_type, .. } => DataType::number(*number_type),
+            Expression::Choose { data_type, .. } => *data_type,
+            Expression::Assign { to, .. } => to.data_type,
+            Expression::Update { to, .. } => to.data_type,
+            Expression::CallFunction { data_type, .. } => *data_type,
+            Expression::Within { data_type, .. } => *data_type,
+            Expression::CreateProcess { kind, .. } => DataType::process(*kind),
+            Expression::GetChar => DataType::int(),
+            Expression::Not { .. } => DataType::int(),
+            Expression::Compare { .. } => DataType::int(),
+            Expression::Both { .. } => DataType::int(),
+            Expression::Either { .. } => DataType::int(),
+            Expression::PutChar { .. } => DataType::int(),
+            Expression::PrintFormat { .. } => DataType::int(),
+        }
+    }
 }
 
 /// A statement, or an entry of a block. A declaration of several variables is one entry for each.
@@ -387,8 +397,9 @@ pub struct Transaction {
     pub value: DataType,
 }
 
-/// An accept in the body of a kind: its transaction, the number of the first of its parameters, the variables, other
-/// than its parameters, that its clauses name, in the order of first mention, and its clauses.
+/// An accept in the body of a kind: its transaction, the number of the first of its parameters (the number after the last
+/// variable where it has none there), the variables, other than its parameters, that its clauses name, in the order of first
+/// mention, and its clauses.
 #[derive(Drop)]
 pub struct Site {
     pub kind: u32,

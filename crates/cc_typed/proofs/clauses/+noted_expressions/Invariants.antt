@@ -1,5 +1,5 @@
 use Rattle.std.proofs.Common.{◌≡◌, drop}
-use Rattle.cc_typed.specs.ClauseLists.{comparisons_noted_in, operations_noted_in, row_noted_in}
+use Rattle.cc_typed.specs.ClauseLists.{comparisons_noted_in, operations_noted_in, parts_noted_in, row_noted_in}
 use Rattle.cc_typed.proofs.clauses.+noted_expressions.Given as goal
 
 abbrev pub invariant-note_operations-loop-operation : goal.invariant-note_operations-loop-operation
@@ -12,3 +12,6 @@ invariant-note_comparisons-loop-compared l =
 
 abbrev pub invariant-note_row-loop-e : goal.invariant-note_row-loop-e
 invariant-note_row-loop-e l = row_noted_in l.own l.seen (drop l.e-index l.rest) ≡ row_noted_in l.own l.fn.seen l.rest
+
+abbrev pub invariant-note_parts-loop-step : goal.invariant-note_parts-loop-step
+invariant-note_parts-loop-step l = parts_noted_in l.own l.seen (drop l.step-index l.steps) ≡ parts_noted_in l.own l.fn.seen l.steps
