@@ -74,6 +74,13 @@ impl DataType {
         }
     }
 
+    /// Whether it is a type of numbers.
+    pub fn is_arithmetic(self) -> bool
+        ensures arithmetic { result ≡ is_arithmetic self }
+    {
+        matches!(self, DataType::Single(ElementType::Number(_)))
+    }
+
     /// The type of processes of a kind.
     pub fn process(kind: u32) -> DataType
         ensures process { result ≡ of_process kind }
@@ -154,7 +161,7 @@ pub(crate) fn void_type(t: DataType) -> bool
 pub(crate) fn arithmetic_type(t: DataType) -> bool
     ensures { result ≡ is_arithmetic t }
 {
-    matches!(t, DataType::Single(ElementType::Number(_)))
+    t.is_arithmetic()
 }
 
 fn process_type(t: DataType) -> bool
