@@ -13,7 +13,7 @@ use Rattle.cc_rules.specs.Alike.{AreAlike}
 use Rattle.cc_source.specs.Lists.{exec_all}
 use Rattle.cc_source.specs.Meaning.{Caller, Scope, eval, exec}
 use Rattle.cc_typed.specs.Parts.{Parts}
-use Rattle.cc_typed.specs.declared.tree.Expression.TheBlock as E
+use Rattle.cc_typed.specs.declared.tree.ChainStep.TheBlock as E
 use denote.Hole.Carrier.{hidden}
 use Rattle.cc_source.specs.Programs.{act, call, fit, meaning}
 
@@ -25,7 +25,7 @@ puts-ask :
     (p : Parts) (call : Caller) (bytes : List ℕ) (scope : Scope) (grants : List Grant) (ticks : ℕ)
     → All (λ b. b ≤ 255) bytes
     → asked_by Done (exec_all p call (map puts bytes) scope (record { grants = grants; ticks = ticks })) ≡ byte_request (slice_get bytes (length grants))
-unfolding exec eval E.shape-the_row-Expression-0 E.hidden-the_row-Expression-0 hidden
+unfolding exec eval E.shape-the_row-Expression-2 E.hidden-the_row-Expression-2 hidden
 puts-ask p call [] scope grants ticks small = refl
 puts-ask p call (b ∷ bytes) scope [] ticks small =
     let le : b ≤ 255 = All-head (λ x. x ≤ 255) b bytes small in

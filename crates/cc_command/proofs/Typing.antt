@@ -5,13 +5,11 @@ use Rattle.std.specs.List.{list_all}
 use Rattle.std.specs.Prelude.{All}
 use Rattle.std.proofs.lemmas.List.Elements.{All-head, All-tail}
 use Rattle.cc_command.specs.Program.{program_of, puts}
-use Rattle.cc_typed.specs.Numbers.{fits, is_char, is_int, is_long}
-use Rattle.cc_source.specs.Straight.{is_straight, is_straight_program, is_straight_statement, is_straight_type}
+use Rattle.cc_base.specs.Numbers.{fits, is_int}
+use Rattle.cc_source.specs.Straight.{is_straight, is_straight_program, is_straight_statement, is_straight_value}
 use Rattle.cc_typed.specs.Typed.{Surroundings, is_typed, is_typed_program, is_typed_statement}
-use Rattle.cc_typed.specs.KnownTypes.{is_known}
-use Rattle.cc_typed.specs.Types.{is_array, is_void, type_of}
-use Rattle.cc_typed.specs.declared.tree.DataType.{Int}
-use Rattle.cc_typed.specs.declared.tree.Expression.TheBlock as E
+use Rattle.cc_typed.specs.Types.{type_of}
+use Rattle.cc_typed.specs.declared.tree.ChainStep.TheBlock as E
 use Rattle.cc_typed.specs.declared.tree.Statement.{Statement}
 use denote.Hole.Carrier.{hidden}
 
@@ -19,8 +17,8 @@ fits-byte : (byte : ℕ) → byte ≤ 255 → fits 31 (pos byte) ≡ true
 fits-byte byte small = grind (arith, nat_tests)
 
 typed-puts : (s : Surroundings) (byte : ℕ) → byte ≤ 255 → is_typed_statement s (puts byte) ≡ true
-unfolding is_typed_statement is_typed is_char is_int is_long type_of E.shape-the_row-Expression-0 E.hidden-the_row-Expression-0 hidden
-typed-puts s byte small = ap (λ b. (b || false) && true) (fits-byte byte small)
+unfolding is_typed_statement is_typed type_of E.shape-the_row-Expression-2 E.hidden-the_row-Expression-2 hidden
+typed-puts s byte small = ap (λ b. b && true) (fits-byte byte small)
 
 all-typed : (s : Surroundings) (bytes : List ℕ) → All (λ b. b ≤ 255) bytes → list_all (is_typed_statement s) (map puts bytes) ≡ true
 all-typed s [] small = refl
@@ -30,11 +28,10 @@ all-typed s (byte ∷ bytes) small =
     ap (λ b. b && list_all (is_typed_statement s) (map puts bytes)) first ∙ others
 
 pub program-typed : (bytes : List ℕ) → All (λ b. b ≤ 255) bytes → is_typed_program (program_of bytes) ≡ true
-unfolding is_void is_known is_array
 program-typed bytes small = rw (all-typed _ bytes small) refl
 
 straight-puts : (byte : ℕ) → is_straight_statement (puts byte) ≡ true
-unfolding is_straight_statement is_straight is_int E.shape-the_row-Expression-0 E.hidden-the_row-Expression-0 hidden
+unfolding is_straight_statement is_straight is_int E.shape-the_row-Expression-2 E.hidden-the_row-Expression-2 hidden
 straight-puts byte = refl
 
 all-straight : (bytes : List ℕ) → list_all is_straight_statement (map puts bytes) ≡ true
@@ -42,4 +39,5 @@ all-straight [] = refl
 all-straight (byte ∷ bytes) = ap (λ b. b && list_all is_straight_statement (map puts bytes)) (straight-puts byte) ∙ all-straight bytes
 
 pub program-straight : (bytes : List ℕ) → is_straight_program (program_of bytes) ≡ true
+unfolding is_straight_value
 program-straight bytes = rw (all-straight bytes) refl

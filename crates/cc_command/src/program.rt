@@ -1,5 +1,5 @@
 ghost use Rattle.std.specs.Prelude.{◌≡◌, ◌≤◌, ◌∷◌, [], ℕ, List, All, pos, IfOk, IsErrOf};
-ghost use Rattle.cc_typed.specs.declared.tree.DataType.{Int};
+ghost use Rattle.cc_base.specs.declared.numbers.NumberType.TheVariants as numeric;
 ghost use Rattle.cc_typed.specs.declared.tree.Expression.{Constant};
 ghost use Rattle.cc_typed.specs.Checked.{parts_of};
 ghost use Rattle.cc_command.specs.Form.{IsProgram};
@@ -7,17 +7,17 @@ ghost use Rattle.cc_command.specs.Program.{IsText, program_of, puts};
 
 use crate::reader::{ReadError, read_bytes};
 use cc_base::Memory;
-use cc_source::{DataType, Early, Expression, Kind, Program, ProgramParts, Statement};
+use cc_source::{DataType, Early, Expression, Kind, NumberType, Program, ProgramParts, Statement};
 use sqlite_items::{Boxed, Items};
 use std::alloc::Global;
 
 /// A byte as a number of type `int`.
 fn number(byte: u8) -> Expression
-    ensures { result ≡ Constant (pos byte) Int }
+    ensures { result ≡ Constant (pos byte) numeric.Int }
 {
     Expression::Constant {
         value: i64::from(byte),
-        data_type: DataType::Int,
+        number_type: NumberType::Int,
     }
 }
 
@@ -42,7 +42,7 @@ fn main_kind(alloc: Global, bytes: &[u8]) -> Result<Kind, Memory>
     Ok(Kind {
         parameters: 0,
         variables: Items::new(alloc),
-        result: DataType::Int,
+        result: DataType::int(),
         body,
     })
 }
@@ -54,6 +54,7 @@ fn parts(alloc: Global, bytes: &[u8]) -> Result<ProgramParts, Memory>
     let mut kinds = Items::new(alloc);
     kinds.push(main_kind(alloc, bytes)?)?;
     Ok(ProgramParts {
+        structures: Items::new(alloc),
         kinds,
         functions: Items::new(alloc),
         transactions: Items::new(alloc),

@@ -1,7 +1,10 @@
+pub mod Conversions
+pub mod Cuts
+pub mod Evaluations
+pub mod Executions
 pub mod Fits
-pub mod Laws
+pub mod Means
+pub mod Scopes
 pub mod Shapes
 pub mod Straight
-pub mod StraightValues
-pub mod Variants
 pub mod Weights

@@ -3,8 +3,8 @@ use Rattle.std.proofs.Common.{◌≡◌, Bool, true, false, ◌&&◌, length, re
 use Rattle.std.specs.Prelude.{if◌then◌else◌}
 use Rattle.cc_base.specs.Requests.{HasSites, WellFormed}
 use Rattle.cc_base.specs.Supported.{AsksSupported}
-use Rattle.cc_source.specs.Asks.{keeps-form, keeps-served, keeps-sites}
-use Rattle.cc_source.specs.Conversions.{and-left, and-right}
+use Rattle.cc_source.specs.Asks.{keeps-form, keeps-supported, keeps-sites}
+use Rattle.cc_source.specs.Known.{and-left, and-right}
 use Rattle.cc_source.specs.Early.{early_meaning, early_sites, is_early, no_meaning}
 use Rattle.cc_typed.specs.Parts.{Parts}
 use Rattle.cc_source.specs.Programs.{meaning}
@@ -42,12 +42,12 @@ early_form p = go (is_early p) refl
 nothing-supported : AsksSupported no_meaning
 nothing-supported kind args grants exists proper = tt
 
--- a straight program asks only what is served so far
+-- a straight program asks only what is supported so far
 pub early_supported : (p : Parts) → AsksSupported (early_meaning p)
 early_supported p = go (is_early p) refl
   where
     go : (b : Bool) → is_early p ≡ b → AsksSupported (if b then meaning p else no_meaning)
-    go true e = keeps-served p (early-typed p e) (early-straight p e)
+    go true e = keeps-supported p (early-typed p e) (early-straight p e)
     go false e = nothing-supported
 
 pub early_has_sites : (p : Parts) → HasSites (early_meaning p) (early_sites p)

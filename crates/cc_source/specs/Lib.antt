@@ -1,13 +1,17 @@
-pub mod Asks
-pub mod Conversions
-pub mod Early
-pub mod Gives
-pub mod Known
-pub mod Lawful
-pub mod Lists
+-- what a phrase does, on values
 pub mod Meaning
+-- phrases in a list
+pub mod Lists
+-- what a program means
 pub mod Programs
-pub mod Projections
-pub mod Safe
+-- straight phrases and programs, and what each value of `Early` means
 pub mod Straight
-pub mod Unflats
+pub mod Early
+-- what evaluating a phrase on cells gives
+pub mod Gives
+-- straight phrases give values of their types, and ask what can be performed
+pub mod Known
+pub mod Safe
+pub mod Asks
+pub mod Projections
+pub mod Lawful

@@ -1,34 +1,44 @@
 -- What a phrase does, on values.
-use Rattle.std.specs.Prelude.{ℕ, zero, suc, ◌+◌, ℤ, pos, negsuc, ◌-ℤ◌, List, [], ◌∷◌, ◌++◌, length, map, get_or, set, Option, Some, None, true, false, ◌||◌, if◌then◌else◌, slice_get}
+use Rattle.std.specs.Prelude.{ℕ, zero, suc, ◌+◌, ℤ, pos, negsuc, List, [], ◌∷◌, ◌++◌, map, get_or, set, Option, Some, None, true, false, slice_get, Result}
+use Rattle.cc_base.specs.Granted.{alternative_taken, args_taken, create, delay, get_byte, or_fault, print_format, put_byte, reply, select, send, transact, transact_within}
 use Rattle.cc_base.specs.Loops.{loops}
-use Rattle.cc_base.specs.Outcome.{Eval, ◌>>=◌, ◌>>◌, pure, stop, variables, set_variables, ask}
+use Rattle.cc_base.specs.Numbers.{at_zero, compared, converted, indexed, logical_not, operated, opposite, truth, truth_of, updated}
+use Rattle.cc_base.specs.Outcome.{Eval, ◌>>=◌, ◌>>◌, pure, variables, set_variables}
 use Rattle.cc_base.specs.declared.alternatives.Alt.{Alt}
 use Rattle.cc_base.specs.declared.alternatives.Alt.TheVariants as alt
-use Rattle.cc_base.specs.declared.names.FaultKind.TheVariants.{NullProcess, CalleeGone, NoAlternative}
-use Rattle.cc_base.specs.declared.names.Pid.{Pid}
+use Rattle.cc_base.specs.declared.names.FaultKind.{FaultKind}
+use Rattle.cc_base.specs.declared.numbers.NumberType.{NumberType}
+use Rattle.cc_base.specs.declared.numbers.NumberType.TheVariants as numeric
+use Rattle.cc_base.specs.declared.numbers.Operator.{Operator}
+use Rattle.cc_base.specs.declared.numbers.Operator.TheVariants.{Add}
 use Rattle.cc_base.specs.declared.request.Grant.{Grant}
-use Rattle.cc_base.specs.declared.request.Grant.TheVariants as grant
-use Rattle.cc_base.specs.declared.request.Request.TheVariants as request
-use Rattle.cc_typed.specs.Formats.{formatted}
+use Rattle.cc_typed.specs.Layout.{cells}
 use Rattle.cc_typed.specs.Missing.{environment_at, first_at, parameters_at, transaction_at, value_type_at}
-use Rattle.cc_typed.specs.Numbers.{at_zero, byte_of, compared, converted, in_range, indexed, is_long, operated, process_of, truth}
 use Rattle.cc_typed.specs.Parts.{Parts}
-use Rattle.cc_typed.specs.Phrases.{field, element, field_of, element_of, negate, not_of, plus, parenthesized, choose, assign, update, put_char, branch, branches, while_loop, do_loop, for_loop}
-use Rattle.cc_typed.specs.Types.{array_length, root, type_at, type_of}
-use Rattle.cc_typed.specs.Values.{flat, flats, nought, number, part, read, store, unflat, unflats, zero_of}
-use Rattle.cc_source.specs.declared.flow.Flow.{Flow}
-use Rattle.cc_source.specs.declared.flow.Flow.TheVariants.{Ended, Broke, Continued, Returned, Replied, Finished}
+use Rattle.cc_typed.specs.Phrases.{negate, not_of, plus, parenthesized, choose, put_char, branch, branches, while_loop, do_loop, for_loop}
+use Rattle.cc_typed.specs.Table.{layout_of, layouts_of}
+use Rattle.cc_typed.specs.Types.{array_length, number_in, of_number, type_after, type_after_step, type_of}
+use Rattle.cc_typed.specs.Values.{Value, Number, flat, flats, nought, number, part, read, store, unflat, unflats, zero_of}
+use Rattle.cc_typed.specs.declared.tree.ChainStep.{ChainStep, Part, Call', Send', Row_of-Argument, end_of-Argument, more_of-Argument}
 use Rattle.cc_typed.specs.declared.tree.Choice.{Choice, Accept' as AcceptChoice', Delay as DelayChoice, Immediate, Terminate}
-use Rattle.cc_typed.specs.declared.tree.DataType.{DataType, Void, Int, Long}
-use Rattle.cc_typed.specs.declared.tree.Expression.{Expression, Constant, GetChar, Read, StepBefore, StepAfter, CallFunction', CreateProcess', Transact', SendTo', Within', PrintFormat', Row_of-Expression, end_of-Expression, more_of-Expression, Row_of-Argument, end_of-Argument, more_of-Argument, Arithmetic', Compare', Both', Either', Row_of-Operation, end_of-Operation, more_of-Operation, Row_of-Compared, end_of-Compared, more_of-Compared}
-use Rattle.cc_typed.specs.declared.tree.Location.{Location, Variable}
-use Rattle.cc_typed.specs.declared.tree.Operator.{Operator}
-use Rattle.cc_typed.specs.declared.tree.Operator.TheVariants.{Add}
+use Rattle.cc_typed.specs.declared.tree.Expression.{Expression, Constant, GetChar, Read', Chain', ChangeBefore', ChangeAfter', Arithmetic', Compare', Both', Either', Assign', Update', CallFunction', CreateProcess', Within', PrintFormat', Row_of-Expression, end_of-Expression, more_of-Expression, Row_of-PartStep, end_of-PartStep, more_of-PartStep, Row_of-ChainStep, end_of-ChainStep, more_of-ChainStep, Row_of-Operation, end_of-Operation, more_of-Operation, Row_of-Compared, end_of-Compared, more_of-Compared}
+use Rattle.cc_typed.specs.declared.tree.PartStep.{PartStep, Field, Element}
 use Rattle.cc_typed.specs.declared.tree.Statement.{Statement, Empty, Evaluate, Declare, Initialize, Block', Break, Continue, Return, Finish, TransactionReturn, Delay, Accept', Select', Row_of-Statement, end_of-Statement, more_of-Statement, Row_of-Alternative, end_of-Alternative, more_of-Alternative}
-use Rattle.cc_typed.specs.declared.tree.Step.{Step}
-use Rattle.cc_typed.specs.declared.tree.Step.TheVariants.{Up, Down}
+use Rattle.cc_typed.specs.declared.tree.Change.{Change}
+use Rattle.cc_typed.specs.declared.tree.Change.TheVariants.{Up, Down}
 use Rattle.cc_typed.specs.declared.tree.Transaction.{Transaction}
-use Rattle.cc_typed.specs.declared.value.Value.{Value, Number}
+use Rattle.cc_typed.specs.declared.types.DataType.{DataType}
+use Rattle.cc_typed.specs.declared.types.DataType.TheVariants.{Void}
+
+-- how a statement ended: by itself, by `break`, by `continue`, by `return` in a function with its value, by `treturn` with the
+-- value of the transaction, or by `return` in `main` or a process body
+pub data Flow : Type 0 where
+  Ended : Flow
+  Broke : Flow
+  Continued : Flow
+  Returned : Value → Flow
+  Replied : Value → Flow
+  Finished : Flow
 
 -- the variables of a function or body, by their numbers
 abbrev pub Scope : Type 0
@@ -38,75 +48,43 @@ abbrev pub value_at : Scope → ℕ → Value
 value_at scope x = get_or scope x nought
 
 -- a place is told by its variable and a path from there
-abbrev pub value_of : Location → List ℕ → Eval Scope Value
-value_of l path = do
+abbrev pub value_of : ℕ → List ℕ → Eval Scope Value
+value_of x path = do
   scope ← variables
-  pure (read path (value_at scope (root l)))
+  pure (read path (value_at scope x))
 
 -- the value is stored at the place
-abbrev pub stored : Location → List ℕ → Value → Eval Scope Value
-stored l path v = do
+abbrev pub stored : ℕ → List ℕ → Value → Eval Scope Value
+stored x path v = do
   scope ← variables
-  set_variables (set scope (root l) (store path v (value_at scope (root l))))
+  set_variables (set scope x (store path v (value_at scope x)))
   pure v
 
--- 0 for 0, and else 1
-abbrev pub truth_of : Value → Value
-truth_of v = at_zero (number v) (truth false) (truth true)
+-- what arithmetic gives, as a value, or its fault
+abbrev pub number_or_fault : Result ℤ FaultKind → Eval Scope Value
+number_or_fault r = do
+  n ← or_fault r
+  pure (Number n)
 
--- what is stored, and what stood there before
-abbrev pub changed : Location → List ℕ → Operator → DataType → ℤ → Value → Eval Scope Value
-changed l path o t amount old = do
-  new ← operated o t (number old) amount
-  v ← converted t (type_at l) new
-  stored l path v
+-- a value of the first type as one of the second: a number is converted, and any other stays
+abbrev pub converted_value : DataType → DataType → Value → Eval Scope Value
+converted_value (of_number t) (of_number u) v = number_or_fault (converted t u (number v))
+converted_value _ _ v = pure v
 
-abbrev pub wider : DataType → DataType → DataType
-wider t u = if is_long t || is_long u then Long else Int
+-- a place of type t is updated by an operation with a number of type u; the first value is what stood there
+abbrev pub changed : ℕ → List ℕ → DataType → Operator → NumberType → ℤ → Value → Eval Scope Value
+changed x path t o u amount old = do
+  v ← number_or_fault (updated o (number_in t) u (number old) amount)
+  stored x path v
 
-abbrev pub amount_of : Step → ℤ
+abbrev pub amount_of : Change → ℤ
 amount_of Up = pos 1
 amount_of Down = negsuc 0
 
--- the process that was made, as a number
-abbrev pub made : Grant → Value
-made (grant.Made p) = Number (pos (p.0 + 1))
-made _ = nought
-
--- the process of a number, which is a fault where there is none
-abbrev pub called : {S : Type 0} → Option Pid → Eval S Pid
-called None = stop (request.Fault NullProcess)
-called (Some p) = pure p
-
--- the value with which a call was answered
-abbrev pub call_value : {S : Type 0} → DataType → Grant → Eval S Value
-call_value t (grant.Value cs) = pure (unflat t cs)
-call_value t grant.Gone = stop (request.Fault CalleeGone)
-call_value t _ = pure (zero_of t)
-
-abbrev pub timed_value : {S : Type 0} → DataType → Eval S Value → Grant → Eval S Value
-timed_value t otherwise grant.Late = otherwise
-timed_value t otherwise (grant.Value cs) = pure (unflat t cs)
-timed_value t otherwise grant.Gone = stop (request.Fault CalleeGone)
-timed_value t otherwise _ = pure (zero_of t)
-
--- a synchronous call of the process that this value names
-abbrev pub transacted : ℕ → DataType → Value → List Value → Eval Scope Value
-transacted trans t v vs = do
-  callee ← called (process_of (number v))
-  g ← ask (request.Call callee trans (flats vs))
-  call_value t g
-
--- a value is printed as one byte, which is then the value
-abbrev pub put_byte : Value → Eval Scope Value
-put_byte v = do
-  ask (request.Print (byte_of (number v) ∷ []))
-  pure (Number (pos (byte_of (number v))))
-
--- the next byte, or -1 at the end of the input
-abbrev pub byte_got : Grant → Value
-byte_got (grant.Byte (Some b)) = Number (pos b)
-byte_got _ = Number (negsuc 0)
+-- variables are set one after the other
+abbrev pub set_from : ℕ → List Value → Scope → Scope
+set_from x [] scope = scope
+set_from x (v ∷ vs) scope = set_from (suc x) vs (set scope x v)
 
 -- call function args: what the call of a function does
 abbrev pub Caller : Type 0
@@ -124,20 +102,6 @@ after_turn Continued next = next
 after_turn Broke next = pure Ended
 after_turn flow next = pure flow
 
-abbrev pub args_taken : Grant → List ℤ
-args_taken (grant.Took alt args) = args
-args_taken _ = []
-
-abbrev pub alternative_taken : Grant → ℕ
-alternative_taken (grant.Took alt args) = alt
-alternative_taken (grant.Chose alt) = alt
-alternative_taken _ = 0
-
--- variables are set one after the other
-abbrev pub set_from : ℕ → List Value → Scope → Scope
-set_from x [] scope = scope
-set_from x (v ∷ vs) scope = set_from (suc x) vs (set scope x v)
-
 -- the transaction of a site
 abbrev pub transaction_of : Parts → ℕ → Option Transaction
 transaction_of p site = slice_get p.transactions (transaction_at (slice_get p.sites site))
@@ -147,69 +111,108 @@ abbrev pub alternative_at : Parts → ℕ → Scope → Alt
 alternative_at p site scope =
     alt.Accept (transaction_at (slice_get p.sites site)) site (flats (map (value_at scope) (environment_at (slice_get p.sites site))))
 
--- the parameters of an accept are set to the arguments of the call that was taken
-abbrev pub scope_taken : Parts → ℕ → Grant → Scope → Scope
-scope_taken p site g scope =
-    set_from (first_at (slice_get p.sites site)) (unflats (parameters_at (transaction_of p site)) (args_taken g)) scope
+module _ (p : Parts) where
+  abbrev pub zero_in : DataType → Value
+  zero_in t = zero_of (layout_of p.structures t)
 
--- the value with which an accept's block replies
-abbrev pub reply_of : DataType → Flow → Value
-reply_of t (Replied v) = v
-reply_of t _ = zero_of t
+  -- the value of a type that has these cells
+  abbrev pub value_in : DataType → List ℤ → Value
+  value_in t cs = unflat (layout_of p.structures t) cs
 
-abbrev pub reply_cells : Parts → ℕ → Flow → List ℤ
-reply_cells p site flow = flat (reply_of (value_type_at (transaction_of p site)) flow)
+  abbrev pub cells_of_type : DataType → ℕ
+  cells_of_type t = cells (layout_of p.structures t)
 
-abbrev pub selected : List (ℕ × Alt) → Eval Scope Grant
-selected [] = stop (request.Fault NoAlternative)
-selected (a ∷ rest) = ask (request.Select (a ∷ rest))
+  -- a synchronous call of the process that this value names, of a transaction with a value of this type
+  abbrev pub transacted : ℕ → DataType → Value → List Value → Eval Scope Value
+  transacted trans t v vs = do
+    cs ← transact trans (cells_of_type t) (number v) (flats vs)
+    pure (value_in t cs)
+
+  abbrev pub sent : ℕ → Value → List Value → Eval Scope Value
+  sent trans v vs = do
+    send trans (number v) (flats vs)
+    pure (zero_in Void)
+
+  -- the value of a timed call, and what stands for it where the call was withdrawn
+  abbrev pub in_time : DataType → Eval Scope Value → Option (List ℤ) → Eval Scope Value
+  in_time t otherwise None = otherwise
+  in_time t otherwise (Some cs) = pure (value_in t cs)
+
+  -- the parameters of an accept are set to the arguments of the call that was taken
+  abbrev pub scope_taken : ℕ → Grant → Scope → Scope
+  scope_taken site g scope =
+      set_from (first_at (slice_get p.sites site)) (unflats (layouts_of p.structures (parameters_at (transaction_of p site))) (args_taken g)) scope
+
+  -- the value with which an accept's block replies
+  abbrev pub reply_of : DataType → Flow → Value
+  reply_of t (Replied v) = v
+  reply_of t _ = zero_in t
+
+  abbrev pub reply_cells : ℕ → Flow → List ℤ
+  reply_cells site flow = flat (reply_of (value_type_at (transaction_of p site)) flow)
 
 module _ (p : Parts) (call : Caller) where
   unfoldable mutual
-    -- the path from its variable to a place
-    pub place : Location → Eval Scope (List ℕ)
-    place (Variable x t) = pure []
-    place (field l k t) = do
-      path ← place l
-      pure (path ++ k ∷ [])
-    place (element l e t) = do
-      path ← place l
+    -- the number of the part to which a step leads from a value of this type
+    pub part_number : DataType → PartStep → Eval Scope ℕ
+    part_number t (Field k u) = pure k
+    part_number t (Element e u) = do
       i ← eval e
-      k ← indexed (array_length (type_at l)) (number i)
-      pure (path ++ k ∷ [])
+      or_fault (indexed (array_length t) (number i))
+
+    -- the path along steps from a place of this type, after this path
+    pub path_along : {n : _} → DataType → List ℕ → Row_of-PartStep n → Eval Scope (List ℕ)
+    path_along t path end_of-PartStep = pure path
+    path_along t path (more_of-PartStep s rest) = do
+      k ← part_number t s
+      path_along (type_after s) (path ++ k ∷ []) rest
+
+    -- the value after a step from a value of this type
+    pub step_from : DataType → Value → ChainStep → Eval Scope Value
+    step_from t v (Part s) = do
+      k ← part_number t s
+      pure (part v k)
+    step_from t v (Call' trans _ args u) = do
+      vs ← arguments args
+      transacted p trans u v vs
+    step_from t v (Send' trans _ args) = do
+      vs ← arguments args
+      sent p trans v vs
+
+    -- the value after steps from a value of this type
+    pub value_along : {n : _} → DataType → Value → Row_of-ChainStep n → Eval Scope Value
+    value_along t v end_of-ChainStep = pure v
+    value_along t v (more_of-ChainStep s rest) = do
+      w ← step_from t v s
+      value_along (type_after_step s) w rest
 
     pub eval : Expression → Eval Scope Value
     eval (Constant n t) = pure (Number n)
     eval GetChar = do
-      g ← ask request.Get
-      pure (byte_got g)
-    eval (Read l) = do
-      path ← place l
-      value_of l path
-    eval (field_of e k t) = do
+      n ← get_byte
+      pure (Number n)
+    eval (Read' x t _ steps u) = do
+      path ← path_along t [] steps
+      value_of x path
+    eval (Chain' _ (more_of-Expression e end_of-Expression) _ steps u) = do
       v ← eval e
-      pure (part v k)
-    eval (element_of e i t) = do
-      v ← eval e
-      j ← eval i
-      k ← indexed (array_length (type_of e)) (number j)
-      pure (part v k)
+      value_along (type_of e) v steps
     eval (negate e t) = do
       v ← eval e
-      in_range t (pos 0 -ℤ number v)
+      number_or_fault (opposite t (number v))
     eval (not_of e) = do
       v ← eval e
-      pure (at_zero (number v) (truth true) (truth false))
+      pure (Number (logical_not (number v)))
     eval (plus e t) = eval e
     eval (parenthesized e t) = eval e
-    eval (StepBefore l s) = do
-      path ← place l
-      old ← value_of l path
-      changed l path Add (wider (type_at l) Int) (amount_of s) old
-    eval (StepAfter l s) = do
-      path ← place l
-      old ← value_of l path
-      changed l path Add (wider (type_at l) Int) (amount_of s) old
+    eval (ChangeBefore' x t _ steps u s) = do
+      path ← path_along t [] steps
+      old ← value_of x path
+      changed x path u Add numeric.Int (amount_of s) old
+    eval (ChangeAfter' x t _ steps u s) = do
+      path ← path_along t [] steps
+      old ← value_of x path
+      changed x path u Add numeric.Int (amount_of s) old
       pure old
     eval (Arithmetic' _ (more_of-Expression a end_of-Expression) _ rest t) = do
       x ← eval a
@@ -226,73 +229,63 @@ module _ (p : Parts) (call : Caller) where
     eval (choose c a b t) = do
       x ← eval c
       at_zero (number x) (eval b) (eval a)
-    eval (assign l e) = do
-      path ← place l
+    eval (Assign' x t _ steps u _ (more_of-Expression e end_of-Expression)) = do
+      path ← path_along t [] steps
       v ← eval e
-      w ← converted (type_of e) (type_at l) v
-      stored l path w
-    eval (update l o e) = do
-      path ← place l
-      old ← value_of l path
+      w ← converted_value (type_of e) u v
+      stored x path w
+    eval (Update' x t _ steps u o _ (more_of-Expression e end_of-Expression)) = do
+      path ← path_along t [] steps
+      old ← value_of x path
       v ← eval e
-      changed l path o (wider (type_at l) (type_of e)) (number v) old
+      changed x path u o (number_in (type_of e)) (number v) old
     eval (CallFunction' f _ args t) = do
       vs ← arguments args
       call f vs
     eval (CreateProcess' k _ args) = do
       vs ← arguments args
-      g ← ask (request.Create k (flats vs))
-      pure (made g)
-    eval (Transact' _ (more_of-Expression e end_of-Expression) trans _ args t) = do
-      v ← eval e
-      vs ← arguments args
-      transacted trans t v vs
-    eval (SendTo' _ (more_of-Expression e end_of-Expression) trans _ args) = do
-      v ← eval e
-      vs ← arguments args
-      callee ← called (process_of (number v))
-      ask (request.Send callee trans (flats vs))
-      pure (zero_of Void)
+      n ← create k (flats vs)
+      pure (Number n)
     eval (Within' _ (more_of-Expression d end_of-Expression) _ (more_of-Expression e end_of-Expression) trans _ args _ (more_of-Expression other end_of-Expression) t) = do
       wait ← eval d
       v ← eval e
       vs ← arguments args
-      callee ← called (process_of (number v))
-      g ← ask (request.TimedCall callee trans (flats vs) (number wait))
-      timed_value t (eval other >>= converted (type_of other) t) g
+      cs ← transact_within trans (cells_of_type p t) (number wait) (number v) (flats vs)
+      in_time p t (eval other >>= converted_value (type_of other) t) cs
     eval (put_char e) = do
       v ← eval e
-      put_byte v
+      n ← put_byte (number v)
+      pure (Number n)
     eval (PrintFormat' f _ args) = do
       vs ← eval_row args
-      ask (request.Print (formatted (get_or p.formats f []) (map number vs)))
-      pure (Number (pos (length (formatted (get_or p.formats f []) (map number vs)))))
+      n ← print_format (get_or p.formats f []) (map number vs)
+      pure (Number n)
 
     -- operations from the left, of which the first has this value on its left
-    operations : {n : _} → Value → Row_of-Operation n → Eval Scope Value
+    pub operations : {n : _} → Value → Row_of-Operation n → Eval Scope Value
     operations x end_of-Operation = pure x
     operations x (more_of-Operation o b t rest) = do
       y ← eval b
-      z ← operated o t (number x) (number y)
+      z ← number_or_fault (operated o t (number x) (number y))
       operations z rest
 
-    comparisons : {n : _} → Value → Row_of-Compared n → Eval Scope Value
+    pub comparisons : {n : _} → Value → Row_of-Compared n → Eval Scope Value
     comparisons x end_of-Compared = pure x
     comparisons x (more_of-Compared o b rest) = do
       y ← eval b
-      comparisons (truth (compared o (number x) (number y))) rest
+      comparisons (Number (truth (compared o (number x) (number y)))) rest
 
     -- what stands on the right of `&&` is evaluated only where its left is not 0
-    both_row : {n : _} → Value → Row_of-Expression n → Eval Scope Value
+    pub both_row : {n : _} → Value → Row_of-Expression n → Eval Scope Value
     both_row x end_of-Expression = pure x
     both_row x (more_of-Expression b rest) = do
-      y ← at_zero (number x) (pure (truth false)) (eval b >>= (λ v. pure (truth_of v)))
+      y ← at_zero (number x) (pure (Number (truth false))) (eval b >>= (λ v. pure (Number (truth_of (number v)))))
       both_row y rest
 
-    either_row : {n : _} → Value → Row_of-Expression n → Eval Scope Value
+    pub either_row : {n : _} → Value → Row_of-Expression n → Eval Scope Value
     either_row x end_of-Expression = pure x
     either_row x (more_of-Expression b rest) = do
-      y ← at_zero (number x) (eval b >>= (λ v. pure (truth_of v))) (pure (truth true))
+      y ← at_zero (number x) (eval b >>= (λ v. pure (Number (truth_of (number v))))) (pure (Number (truth true)))
       either_row y rest
 
     -- arguments from the left, each converted to the type of its parameter before the next
@@ -300,7 +293,7 @@ module _ (p : Parts) (call : Caller) where
     arguments end_of-Argument = pure []
     arguments (more_of-Argument e t rest) = do
       v ← eval e
-      w ← converted (type_of e) t v
+      w ← converted_value (type_of e) t v
       ws ← arguments rest
       pure (w ∷ ws)
 
@@ -314,10 +307,10 @@ module _ (p : Parts) (call : Caller) where
 
   -- a value converted to a type, or the zero of the type
   abbrev pub given : Option Expression → DataType → Eval Scope Value
-  given None t = pure (zero_of t)
+  given None t = pure (zero_in p t)
   given (Some e) t = do
     v ← eval e
-    converted (type_of e) t v
+    converted_value (type_of e) t v
 
   abbrev pub if_there : Option Expression → Eval Scope (Unit {0})
   if_there None = pure tt
@@ -344,14 +337,14 @@ module _ (p : Parts) (call : Caller) where
     scope ← variables
     set_variables (scope_taken p site g scope)
     flow ← block
-    ask (request.Reply (reply_cells p site flow))
+    reply (reply_cells p site flow)
     pure Ended
 
   -- an accept alone is a select with the one alternative 0
   abbrev pub accepted : ℕ → Eval Scope Flow → Eval Scope Flow
   accepted site block = do
     a ← opened site
-    g ← ask (request.Select ((0, a) ∷ []))
+    g ← select ((0, a) ∷ [])
     served site g block
 
   abbrev pub opened_choice : Choice → Eval Scope Alt
@@ -379,11 +372,11 @@ module _ (p : Parts) (call : Caller) where
       pure Ended
     exec (Declare x t) = do
       scope ← variables
-      set_variables (set scope x (zero_of t))
+      set_variables (set scope x (zero_in p t))
       pure Ended
     exec (Initialize x t e) = do
       v ← eval e
-      w ← converted (type_of e) t v
+      w ← converted_value (type_of e) t v
       scope ← variables
       set_variables (set scope x w)
       pure Ended
@@ -426,12 +419,12 @@ module _ (p : Parts) (call : Caller) where
       pure (Replied v)
     exec (Delay e) = do
       v ← eval e
-      ask (request.Delay (number v))
+      delay (number v)
       pure Ended
     exec (Accept' site _ block) = accepted site (exec_row block)
     exec (Select' _ all) = do
       alts ← open_row 0 all
-      g ← selected alts
+      g ← select alts
       chosen_row (alternative_taken g) g all
 
     pub exec_row : {n : _} → Row_of-Statement n → Eval Scope Flow
@@ -441,14 +434,14 @@ module _ (p : Parts) (call : Caller) where
       unless_left flow (exec_row rest)
 
     -- the alternative that was taken or chosen, and then its entries
-    chosen_row : {n : _} → ℕ → Grant → Row_of-Alternative n → Eval Scope Flow
+    pub chosen_row : {n : _} → ℕ → Grant → Row_of-Alternative n → Eval Scope Flow
     chosen_row i g end_of-Alternative = pure Ended
     chosen_row zero g (more_of-Alternative guard choice _ entries rest) = do
       taken_choice g choice
       exec_row entries
     chosen_row (suc i) g (more_of-Alternative guard choice _ entries rest) = chosen_row i g rest
 
-    taken_choice : Grant → Choice → Eval Scope Flow
+    pub taken_choice : Grant → Choice → Eval Scope Flow
     taken_choice g (AcceptChoice' site _ block) = served site g (exec_row block)
     taken_choice g (DelayChoice e) = pure Ended
     taken_choice g Immediate = pure Ended

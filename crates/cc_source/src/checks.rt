@@ -1,77 +1,54 @@
 ghost use Rattle.std.specs.List.{list_all};
 ghost use Rattle.std.specs.Prelude.{◌≡◌, ◌&&◌, not, true, length, slice_get, Some};
-ghost use Rattle.cc_typed.specs.Numbers.{is_int};
-ghost use Rattle.cc_source.specs.Straight.{is_straight, is_straight_argument, is_straight_kind, is_straight_option, is_straight_place, is_straight_program, is_straight_site, is_straight_statement, is_straight_transaction, is_straight_type, is_straight_value};
+ghost use Rattle.cc_source.specs.Straight.{is_straight, is_straight_argument, is_straight_kind, is_straight_location, is_straight_option, is_straight_program, is_straight_site, is_straight_statement, is_straight_step, is_straight_transaction, is_straight_type, is_straight_value};
 
 use crate::program::Program;
-use cc_typed::{Argument, DataType, Expression, Kind, Location, Site, Statement, Transaction};
+use cc_typed::{
+    Argument, ChainStep, DataType, ElementType, Expression, Kind, Location, NumberType, Site,
+    Statement, Transaction,
+};
 
 /// Whether it is `int` or a process type.
-#[tactic(auto, using(crate::proofs::Variants::types))]
-pub(crate) fn straight_type(t: &DataType) -> bool
-    ensures { result ≡ is_straight_type t.now }
+#[tactic(auto, unfolding(crate::specs::Straight::is_straight_type))]
+pub(crate) fn straight_type(t: DataType) -> bool
+    ensures { result ≡ is_straight_type t }
 {
-    match t {
-        DataType::Int => true,
-        DataType::Process { .. } => true,
-        DataType::Void => false,
-        DataType::Char => false,
-        DataType::Long => false,
-        DataType::Struct { .. } => false,
-        DataType::Array { .. } => false,
-    }
+    matches!(
+        t,
+        DataType::Single(ElementType::Number(NumberType::Int))
+            | DataType::Single(ElementType::Process { .. })
+    )
 }
 
-#[tactic(auto, using(crate::proofs::Variants::types))]
-pub(crate) fn straight_value(t: &DataType) -> bool
-    ensures { result ≡ is_straight_value t.now }
+/// Whether it is `int`, a process type or `void`.
+#[tactic(auto, unfolding(crate::specs::Straight::is_straight_value))]
+pub(crate) fn straight_value(t: DataType) -> bool
+    ensures { result ≡ is_straight_value t }
 {
-    match t {
-        DataType::Void => true,
-        DataType::Int => true,
-        DataType::Process { .. } => true,
-        DataType::Char => false,
-        DataType::Long => false,
-        DataType::Struct { .. } => false,
-        DataType::Array { .. } => false,
-    }
-}
-
-#[tactic(auto, using(crate::proofs::Variants::types))]
-fn int_type(t: &DataType) -> bool
-    ensures { result ≡ is_int t.now }
-{
-    match t {
-        DataType::Int => true,
-        DataType::Process { .. } => false,
-        DataType::Void => false,
-        DataType::Char => false,
-        DataType::Long => false,
-        DataType::Struct { .. } => false,
-        DataType::Array { .. } => false,
-    }
+    matches!(
+        t,
+        DataType::Void
+            | DataType::Single(ElementType::Number(NumberType::Int))
+            | DataType::Single(ElementType::Process { .. })
+    )
 }
 
 fn straight_types(types: &[DataType]) -> bool
     ensures { result ≡ list_all is_straight_type types.now }
 {
     for t in types {
-        if !straight_type(t) {
+        if !straight_type(*t) {
             return false;
         }
     }
     true
 }
 
-#[tactic(auto, using(crate::proofs::Straight::straight_places))]
-fn straight_place(place: &Location) -> bool
-    ensures { result ≡ is_straight_place place.now }
+/// Whether it is a variable as a whole, of a straight type.
+fn straight_location(place: &Location) -> bool
+    ensures { result ≡ is_straight_location place.now }
 {
-    match place {
-        Location::Variable { data_type, .. } => straight_type(data_type),
-        Location::Field { .. } => false,
-        Location::Element { .. } => false,
-    }
+    place.steps.is_empty() && straight_type(place.data_type)
 }
 
 /// Whether an expression is straight.
@@ -81,29 +58,27 @@ fn straight_expression(e: &Expression) -> bool
     ensures { result ≡ is_straight e.now }
 {
     match e {
-        Expression::Constant { data_type, .. } => int_type(data_type),
-        Expression::Read { from } => straight_place(from),
-        Expression::Parenthesized { operand, data_type } => straight_expression(operand.get())
-            && straight_value(data_type),
-        Expression::Assign { to, value } => straight_place(to) && straight_expression(value.get()),
-        Expression::CreateProcess { args, .. } => straight_arguments(args.as_slice()),
-        Expression::Transact {
-            process,
-            args,
+        Expression::Constant { number_type, .. } => matches!(number_type, NumberType::Int),
+        Expression::Read { from } => straight_location(from),
+        Expression::Chain {
+            first,
+            steps,
             data_type,
-            ..
-        } => straight_expression(process.get())
-            && straight_arguments(args.as_slice())
-            && straight_value(data_type),
+        } => straight_expression(first.get())
+            && straight_steps(steps.as_slice())
+            && straight_value(*data_type),
+        Expression::Parenthesized { operand, data_type } => straight_expression(operand.get())
+            && straight_value(*data_type),
+        Expression::Assign { to, value } => straight_location(to)
+            && straight_expression(value.get()),
+        Expression::CreateProcess { args, .. } => straight_arguments(args.as_slice()),
         Expression::PutChar { value } => straight_expression(value.get()),
         Expression::GetChar
-        | Expression::FieldOf { .. }
-        | Expression::ElementOf { .. }
         | Expression::Negate { .. }
         | Expression::Not { .. }
         | Expression::Plus { .. }
-        | Expression::StepBefore { .. }
-        | Expression::StepAfter { .. }
+        | Expression::ChangeBefore { .. }
+        | Expression::ChangeAfter { .. }
         | Expression::Arithmetic { .. }
         | Expression::Compare { .. }
         | Expression::Both { .. }
@@ -111,10 +86,37 @@ fn straight_expression(e: &Expression) -> bool
         | Expression::Choose { .. }
         | Expression::Update { .. }
         | Expression::CallFunction { .. }
-        | Expression::SendTo { .. }
         | Expression::Within { .. }
         | Expression::PrintFormat { .. } => false,
     }
+}
+
+/// Whether a step is a synchronous call with straight arguments.
+#[cycle(straight_expressions)]
+#[tactic(auto, using(crate::proofs::Weights::weighs, crate::proofs::Straight::straight_expressions))]
+fn straight_step(step: &ChainStep) -> bool
+    ensures { result ≡ is_straight_step step.now }
+{
+    match step {
+        ChainStep::Part { .. } => false,
+        ChainStep::Call {
+            args, data_type, ..
+        } => straight_arguments(args.as_slice()) && straight_value(*data_type),
+        ChainStep::Send { .. } => false,
+    }
+}
+
+#[cycle(straight_expressions)]
+#[tactic(auto, using(crate::proofs::Weights::weighs, crate::proofs::Straight::straight_expressions))]
+fn straight_steps(steps: &[ChainStep]) -> bool
+    ensures { result ≡ list_all is_straight_step steps.now }
+{
+    for step in steps {
+        if !straight_step(step) {
+            return false;
+        }
+    }
+    true
 }
 
 #[cycle(straight_expressions)]
@@ -123,7 +125,7 @@ fn straight_arguments(args: &[Argument]) -> bool
     ensures { result ≡ list_all is_straight_argument args.now }
 {
     for arg in args {
-        if !(straight_expression(&arg.value) && straight_type(&arg.data_type)) {
+        if !(straight_expression(&arg.value) && straight_type(arg.data_type)) {
             return false;
         }
     }
@@ -148,10 +150,10 @@ fn straight_statement(s: &Statement) -> bool
     match s {
         Statement::Empty => true,
         Statement::Evaluate { expression } => straight_expression(expression),
-        Statement::Declare { data_type, .. } => straight_type(data_type),
+        Statement::Declare { data_type, .. } => straight_type(*data_type),
         Statement::Block { entries } => straight_statements(entries.as_slice()),
         Statement::TransactionReturn { value, data_type } => straight_option(value)
-            && straight_value(data_type),
+            && straight_value(*data_type),
         Statement::Accept { part } => straight_statements(part.block.as_slice()),
         Statement::Initialize { .. }
         | Statement::If { .. }
@@ -184,7 +186,9 @@ fn straight_statements(all: &[Statement]) -> bool
 fn straight_kind(kind: &Kind) -> bool
     ensures { result ≡ is_straight_kind kind.now }
 {
-    straight_types(kind.variables.as_slice()) && straight_statements(kind.body.as_slice())
+    straight_types(kind.variables.as_slice())
+        && straight_value(kind.result)
+        && straight_statements(kind.body.as_slice())
 }
 
 fn straight_kinds(kinds: &[Kind]) -> bool
@@ -202,7 +206,7 @@ fn straight_transactions(transactions: &[Transaction]) -> bool
     ensures { result ≡ list_all is_straight_transaction transactions.now }
 {
     for t in transactions {
-        if !(straight_types(t.parameters.as_slice()) && straight_value(&t.value)) {
+        if !(straight_types(t.parameters.as_slice()) && straight_value(t.value)) {
             return false;
         }
     }

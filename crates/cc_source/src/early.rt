@@ -19,13 +19,12 @@ impl Model for Early {
     ghost use Rattle.std.specs.Coded.{codes};
     ghost use Rattle.cc_source.specs.Early.{is_early};
     ghost use Rattle.cc_typed.specs.Parts.{Parts};
-    ghost use Rattle.cc_typed.specs.contracts.tree.DataType as data_type;
     ghost use Rattle.cc_typed.specs.contracts.tree.Expression as expression;
     ghost use Rattle.cc_typed.specs.contracts.tree.Statement as statement;
 
     ghost Value = { Parts };
 
-    ghost coded = { Prim.hlevel (codes, data_type.the_row.coded, expression.the_row.coded, statement.the_row.coded) };
+    ghost coded = { Prim.hlevel (codes, expression.the_row.coded, statement.the_row.coded) };
 
     ghost view = { λ e. e.0 };
 

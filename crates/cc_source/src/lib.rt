@@ -1,26 +1,27 @@
 //! What a typed program means: what each process asks after its grants, and which calls fit an accept.
 //!
 //! A [`Program`] is made of parts that are typed (`cc_typed`). Its meaning stands in `specs/`: `Meaning` for its phrases
-//! and `Programs` for the whole. The evaluator gives that meaning for straight programs, which `Straight` tells.
+//! and `Programs` for the whole. The evaluator gives that meaning on cells for straight programs, which `Straight` tells.
 #![tactic(auto)]
 
+mod cells;
 mod checks;
 mod early;
-mod flow;
+mod ending;
+mod evaluator;
 mod grants;
+mod laws;
 mod plain;
 mod program;
 mod run;
-mod straight_values;
+mod statements;
 
 pub use cc_typed::{
-    AcceptPart, Alternative, Argument, Choice, Compared, Comparison, DataType, Expression,
-    Function, Kind, Location, Operation, Operator, ProgramParts, Site, Statement, Step,
-    Transaction, Value,
+    AcceptPart, Alternative, Argument, Change, ChainStep, Choice, Compared, Comparison, DataType,
+    ElementType, Expression, Field, Function, Kind, Location, NumberType, Operation, Operator,
+    PartStep, ProgramParts, Site, Statement, Structure, Transaction,
 };
 pub use early::{Early, EarlyProcess};
 pub use grants::Grants;
+pub use laws::straight_expressions_give_values_of_their_types;
 pub use program::Program;
-
-#[cfg(test)]
-mod tests;

@@ -3,7 +3,7 @@ ghost use Rattle.cc_typed.specs.Checked.{parts_of};
 ghost use Rattle.cc_typed.specs.Typed.{is_typed_program};
 
 use cc_base::{Bytes, Memory};
-use cc_typed::{Function, Kind, ProgramParts, Site, Transaction, typed_program};
+use cc_typed::{Function, Kind, ProgramParts, Site, Structure, Transaction, typed_program};
 use sqlite_items::Items;
 use std::alloc::Global;
 use std::marker::Model;
@@ -12,6 +12,8 @@ use std::marker::Model;
 /// is kind 0, without parameters. Transactions, functions and accept sites are numbered over the whole text as written.
 #[derive(Drop)]
 pub struct Program {
+    /// In the order of declaration: each names earlier ones only.
+    pub structures: Items<Structure>,
     pub kinds: Items<Kind>,
     pub functions: Items<Function>,
     pub transactions: Items<Transaction>,
@@ -24,17 +26,16 @@ impl Model for Program {
     ghost use Rattle.cc_typed.specs.Parts.{Parts};
     ghost use Rattle.cc_typed.specs.Typed.{is_typed_program};
     ghost use Rattle.std.specs.Coded.{codes};
-    ghost use Rattle.cc_typed.specs.contracts.tree.DataType as data_type;
     ghost use Rattle.cc_typed.specs.contracts.tree.Expression as expression;
     ghost use Rattle.cc_typed.specs.contracts.tree.Statement as statement;
 
     ghost Value = { Parts };
 
-    ghost coded = { Prim.hlevel (codes, data_type.the_row.coded, expression.the_row.coded, statement.the_row.coded) };
+    ghost coded = { Prim.hlevel (codes, expression.the_row.coded, statement.the_row.coded) };
 
-    ghost view = { λ p. record { kinds = p.kinds; functions = p.functions; transactions = p.transactions; sites = p.sites; formats = p.formats } };
+    ghost view = { λ p. record { structures = p.structures; kinds = p.kinds; functions = p.functions; transactions = p.transactions; sites = p.sites; formats = p.formats } };
 
-    ghost invariant = { λ p. is_typed_program (record { kinds = p.kinds; functions = p.functions; transactions = p.transactions; sites = p.sites; formats = p.formats }) ≡ true };
+    ghost invariant = { λ p. is_typed_program (record { structures = p.structures; kinds = p.kinds; functions = p.functions; transactions = p.transactions; sites = p.sites; formats = p.formats }) ≡ true };
 }
 
 impl Program {
@@ -52,10 +53,11 @@ impl Program {
 
     /// The program of parts that are known to be typed.
     pub fn of(parts: ProgramParts) -> Program
-        requires { is_typed_program (parts_of parts) ≡ true }
-        ensures { result ≡ parts_of parts }
+        requires typed { is_typed_program (parts_of parts) ≡ true }
+        ensures parts { result ≡ parts_of parts }
     {
         Program {
+            structures: parts.structures,
             kinds: parts.kinds,
             functions: parts.functions,
             transactions: parts.transactions,

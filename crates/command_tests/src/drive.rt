@@ -6,8 +6,8 @@ use cc_kernel::Kernel;
 use cc_pool::{Driven, Stop, drive};
 use cc_rules::{Event, Faults, Journal, Standing, Word};
 use cc_source::{
-    AcceptPart, Argument, DataType, Early, Expression, Kind, Location, Program, ProgramParts, Site,
-    Statement, Transaction,
+    AcceptPart, Argument, ChainStep, DataType, Early, Expression, Kind, Location, NumberType, Program,
+    ProgramParts, Site, Statement, Transaction,
 };
 use cc_world::MemSink;
 use sqlite_items::{Boxed, Items};
@@ -18,7 +18,7 @@ use std::sync::Arc;
 
 /// The type of processes of kind 1.
 fn server_type() -> DataType {
-    DataType::Process { kind: 1 }
+    DataType::process(1)
 }
 
 /// The list of one item.
@@ -38,16 +38,23 @@ fn two<T: Drop>(alloc: Global, first: T, second: T) -> Result<Items<T>, Memory> 
 fn number(value: i64) -> Expression {
     Expression::Constant {
         value,
-        data_type: DataType::Int,
+        number_type: NumberType::Int,
     }
 }
 
-fn variable(data_type: DataType) -> Expression {
+/// Variable 0, of this type.
+fn place(alloc: Global, data_type: DataType) -> Location {
+    Location {
+        variable: 0,
+        of: data_type,
+        steps: Items::new(alloc),
+        data_type,
+    }
+}
+
+fn variable(alloc: Global, data_type: DataType) -> Expression {
     Expression::Read {
-        from: Location::Variable {
-            number: 0,
-            data_type,
-        },
+        from: place(alloc, data_type),
     }
 }
 
@@ -66,10 +73,7 @@ fn create(alloc: Global) -> Result<Statement, Memory> {
         args: Items::new(alloc),
     };
     let value = Boxed::new(alloc, made)?;
-    let to = Location::Variable {
-        number: 0,
-        data_type: server_type(),
-    };
+    let to = place(alloc, server_type());
     Ok(Statement::Evaluate {
         expression: Expression::Assign { to, value },
     })
@@ -77,11 +81,16 @@ fn create(alloc: Global) -> Result<Statement, Memory> {
 
 /// `p.t(args)`
 fn call(alloc: Global, args: Items<Argument>, data_type: DataType) -> Result<Expression, Memory> {
-    let process = Boxed::new(alloc, variable(server_type()))?;
-    Ok(Expression::Transact {
-        process,
+    let first = Boxed::new(alloc, variable(alloc, server_type()))?;
+    let step = ChainStep::Call {
         transaction: 0,
         args,
+        data_type,
+    };
+    let steps = one(alloc, step)?;
+    Ok(Expression::Chain {
+        first,
+        steps,
         data_type,
     })
 }
@@ -114,10 +123,10 @@ fn kind(
 fn put_answer(alloc: Global) -> Result<Statement, Memory> {
     let argument = Argument {
         value: number(65),
-        data_type: DataType::Int,
+        data_type: DataType::int(),
     };
     let args = one(alloc, argument)?;
-    let called = call(alloc, args, DataType::Int)?;
+    let called = call(alloc, args, DataType::int())?;
     put(alloc, called)
 }
 
@@ -127,22 +136,22 @@ fn client(alloc: Global) -> Result<Kind, Memory> {
     let mut body = two(alloc, declare(), created)?;
     let printed = put_answer(alloc)?;
     body.push(printed)?;
-    kind(alloc, DataType::Int, server_type(), body)
+    kind(alloc, DataType::int(), server_type(), body)
 }
 
 /// `process body s() { accept t(x) { putchar(x); treturn 66; } }`
 fn server(alloc: Global) -> Result<Kind, Memory> {
-    let printed = put(alloc, variable(DataType::Int))?;
+    let printed = put(alloc, variable(alloc, DataType::int()))?;
     let replied = Statement::TransactionReturn {
         value: Some(number(66)),
-        data_type: DataType::Int,
+        data_type: DataType::int(),
     };
     let block = two(alloc, printed, replied)?;
     let accept = Statement::Accept {
         part: AcceptPart { site: 0, block },
     };
     let body = one(alloc, accept)?;
-    kind(alloc, DataType::Void, DataType::Int, body)
+    kind(alloc, DataType::Void, DataType::int(), body)
 }
 
 /// `process body s() { }`
@@ -179,6 +188,7 @@ fn program(
     transaction: Transaction,
 ) -> Result<ProgramParts, Memory> {
     Ok(ProgramParts {
+        structures: Items::new(alloc),
         kinds: two(alloc, main, body)?,
         functions: Items::new(alloc),
         transactions: one(alloc, transaction)?,
@@ -192,8 +202,8 @@ fn asked(alloc: Global) -> Result<Transaction, Memory> {
     Ok(Transaction {
         kind: 1,
         is_async: false,
-        parameters: one(alloc, DataType::Int)?,
-        value: DataType::Int,
+        parameters: one(alloc, DataType::int())?,
+        value: DataType::int(),
     })
 }
 
@@ -217,7 +227,7 @@ fn deserted(alloc: Global) -> Result<ProgramParts, Memory> {
 fn nobody(alloc: Global) -> Result<ProgramParts, Memory> {
     let expression = call(alloc, Items::new(alloc), DataType::Void)?;
     let body = two(alloc, declare(), Statement::Evaluate { expression })?;
-    let main = kind(alloc, DataType::Int, server_type(), body)?;
+    let main = kind(alloc, DataType::int(), server_type(), body)?;
     let transaction = Transaction {
         kind: 1,
         is_async: false,

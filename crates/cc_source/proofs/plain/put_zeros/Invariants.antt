@@ -1,6 +1,8 @@
 use Rattle.std.proofs.Common.{◌≡◌, ◌++◌, drop}
-use Rattle.cc_source.specs.Programs.{zero_all}
+use Rattle.cc_source.specs.Gives.{blanks}
+use Rattle.cc_typed.specs.Table.{layouts_of}
 use Rattle.cc_source.proofs.plain.put_zeros.Given as goal
 
-abbrev pub invariant-loop-data_type : goal.invariant-loop-data_type
-invariant-loop-data_type l = l.values ++ zero_all (drop l.data_type-index l.types) ≡ l.fn.values ++ zero_all l.types
+abbrev pub invariant-loop-t : goal.invariant-loop-t
+invariant-loop-t l =
+    l.all ++ blanks (layouts_of l.structures (drop l.t-index l.types)) ≡ l.fn.all ++ blanks (layouts_of l.structures l.types)

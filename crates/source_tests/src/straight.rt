@@ -1,19 +1,15 @@
-use crate::{
-    AcceptPart, Argument, DataType, Early, Expression, Grants, Kind, Location, Program,
-    ProgramParts, Site, Statement, Transaction,
+//! Straight programs: what their processes ask, and which calls fit.
+use crate::builders::{evaluate, number, one, read, variable};
+use cc_base::{Behave, Cells, Grant, Memory, NumberType, Pid, Request};
+use cc_source::{Early, Grants, Program};
+use cc_typed::{
+    AcceptPart, Argument, ChainStep, DataType, Expression, Kind, ProgramParts, Site, Statement,
+    Transaction,
 };
-use cc_base::{Behave, Cells, Grant, Memory, Pid, Request};
 use sqlite_items::{Boxed, Items};
 use std::alloc::{AllocError, Global};
 use std::rt::HostRuntime;
 use std::sync::Arc;
-
-/// The list of one item.
-fn one<T: Drop>(alloc: Global, item: T) -> Result<Items<T>, AllocError> {
-    let mut items = Items::new(alloc);
-    items.push(item)?;
-    Ok(items)
-}
 
 /// The list of two items.
 fn two<T: Drop>(alloc: Global, first: T, second: T) -> Result<Items<T>, AllocError> {
@@ -22,22 +18,10 @@ fn two<T: Drop>(alloc: Global, first: T, second: T) -> Result<Items<T>, AllocErr
     Ok(items)
 }
 
-fn variable(number: u32, data_type: DataType) -> Expression {
-    Expression::Read {
-        from: Location::Variable { number, data_type },
-    }
-}
-
-fn number(value: i64, data_type: DataType) -> Expression {
-    Expression::Constant { value, data_type }
-}
-
 /// `putchar(e);`.
 fn print(alloc: Global, e: Expression) -> Result<Statement, AllocError> {
     let value = Boxed::new(alloc, e)?;
-    Ok(Statement::Evaluate {
-        expression: Expression::PutChar { value },
-    })
+    evaluate(Expression::PutChar { value })
 }
 
 /// `p.t(args)`, of variable 0 and transaction 0.
@@ -46,11 +30,18 @@ fn call(
     args: Items<Argument>,
     data_type: DataType,
 ) -> Result<Expression, AllocError> {
-    let process = Boxed::new(alloc, variable(0, DataType::Process { kind: 1 }))?;
-    Ok(Expression::Transact {
-        process,
-        transaction: 0,
-        args,
+    let process = read(variable(alloc, 0, DataType::process(1)));
+    let steps = one(
+        alloc,
+        ChainStep::Call {
+            transaction: 0,
+            args,
+            data_type,
+        },
+    )?;
+    Ok(Expression::Chain {
+        first: Boxed::new(alloc, process)?,
+        steps,
         data_type,
     })
 }
@@ -62,20 +53,15 @@ fn create(alloc: Global) -> Result<Statement, AllocError> {
         args: Items::new(alloc),
     };
     let value = Boxed::new(alloc, made)?;
-    let to = Location::Variable {
-        number: 0,
-        data_type: DataType::Process { kind: 1 },
-    };
-    Ok(Statement::Evaluate {
-        expression: Expression::Assign { to, value },
-    })
+    let to = variable(alloc, 0, DataType::process(1));
+    evaluate(Expression::Assign { to, value })
 }
 
 /// `process s p;`, of variable 0.
 fn declare() -> Statement {
     Statement::Declare {
         variable: 0,
-        data_type: DataType::Process { kind: 1 },
+        data_type: DataType::process(1),
     }
 }
 
@@ -98,26 +84,26 @@ fn kind(
 /// `accept t(x) { putchar(x); treturn 66; }`.
 fn server(alloc: Global) -> Result<Kind, AllocError> {
     let reply = Statement::TransactionReturn {
-        value: Some(number(66, DataType::Int)),
-        data_type: DataType::Int,
+        value: Some(number(66, NumberType::Int)),
+        data_type: DataType::int(),
     };
-    let printed = print(alloc, variable(0, DataType::Int))?;
+    let printed = print(alloc, read(variable(alloc, 0, DataType::int())))?;
     let block = two(alloc, printed, reply)?;
     let accept = Statement::Accept {
         part: AcceptPart { site: 0, block },
     };
     let body = one(alloc, accept)?;
-    kind(alloc, DataType::Void, DataType::Int, body)
+    kind(alloc, DataType::Void, DataType::int(), body)
 }
 
 /// `putchar(p.t(65));`.
 fn print_call(alloc: Global) -> Result<Statement, AllocError> {
     let argument = Argument {
-        value: number(65, DataType::Int),
-        data_type: DataType::Int,
+        value: number(65, NumberType::Int),
+        data_type: DataType::int(),
     };
     let args = one(alloc, argument)?;
-    let called = call(alloc, args, DataType::Int)?;
+    let called = call(alloc, args, DataType::int())?;
     print(alloc, called)
 }
 
@@ -127,7 +113,7 @@ fn client(alloc: Global) -> Result<Kind, AllocError> {
     let mut body = two(alloc, declare(), created)?;
     let printed = print_call(alloc)?;
     body.push(printed)?;
-    kind(alloc, DataType::Int, DataType::Process { kind: 1 }, body)
+    kind(alloc, DataType::int(), DataType::process(1), body)
 }
 
 /// A transaction of kind 1 with the number 0.
@@ -146,8 +132,8 @@ fn rendezvous(alloc: Global) -> Result<ProgramParts, AllocError> {
     let main = client(alloc)?;
     let other = server(alloc)?;
     let kinds = two(alloc, main, other)?;
-    let parameters = one(alloc, DataType::Int)?;
-    let transactions = one(alloc, transaction(parameters, DataType::Int))?;
+    let parameters = one(alloc, DataType::int())?;
+    let transactions = one(alloc, transaction(parameters, DataType::int()))?;
     let sites = one(
         alloc,
         Site {
@@ -160,6 +146,7 @@ fn rendezvous(alloc: Global) -> Result<ProgramParts, AllocError> {
         },
     )?;
     Ok(ProgramParts {
+        structures: Items::new(alloc),
         kinds,
         functions: Items::new(alloc),
         transactions,
@@ -171,17 +158,18 @@ fn rendezvous(alloc: Global) -> Result<ProgramParts, AllocError> {
 /// `process s p; p.t();`.
 fn caller(alloc: Global) -> Result<Kind, AllocError> {
     let expression = call(alloc, Items::new(alloc), DataType::Void)?;
-    let body = two(alloc, declare(), Statement::Evaluate { expression })?;
-    kind(alloc, DataType::Int, DataType::Process { kind: 1 }, body)
+    let body = two(alloc, declare(), evaluate(expression)?)?;
+    kind(alloc, DataType::int(), DataType::process(1), body)
 }
 
 /// `process spec s() { trans void t(); }; process body s() { } main() { process s p; p.t(); }`.
 fn call_of_null(alloc: Global) -> Result<ProgramParts, AllocError> {
     let main = caller(alloc)?;
-    let other = kind(alloc, DataType::Void, DataType::Int, Items::new(alloc))?;
+    let other = kind(alloc, DataType::Void, DataType::int(), Items::new(alloc))?;
     let kinds = two(alloc, main, other)?;
     let transactions = one(alloc, transaction(Items::new(alloc), DataType::Void))?;
     Ok(ProgramParts {
+        structures: Items::new(alloc),
         kinds,
         functions: Items::new(alloc),
         transactions,
@@ -295,4 +283,15 @@ fn the_machine_runs_a_straight_program(rt: HostRuntime) {
     let mut process = Early::start(&early, alloc, 0, Cells::new(alloc)).expect(&rt, "memory");
     let asked = Early::go(&mut process, alloc, Grant::Go).expect(&rt, "memory");
     assert!(rt; matches!(&asked, Request::Fault { .. }));
+}
+
+/// The type of `main` counts: a `main` of type `long` is typed, but not straight.
+#[test]
+fn the_type_of_main_counts(rt: HostRuntime) {
+    let alloc = rt.alloc();
+    let mut parts = call_of_null(alloc).expect(&rt, "memory");
+    let main = kind(alloc, DataType::long(), DataType::int(), Items::new(alloc));
+    parts.kinds.set(0, main.expect(&rt, "memory"));
+    let program = Program::new(alloc, parts).expect(&rt, "memory");
+    assert!(rt; !program.expect(&rt, "typed").is_straight());
 }

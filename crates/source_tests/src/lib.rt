@@ -1,0 +1,13 @@
+//! Tests of the typed tree and of what it means. They stand apart from the libraries, since a crate with tests is proved twice.
+#![tactic(auto)]
+
+#[cfg(test)]
+mod builders;
+#[cfg(test)]
+mod phrases;
+#[cfg(test)]
+mod programs;
+#[cfg(test)]
+mod structures;
+#[cfg(test)]
+mod straight;
