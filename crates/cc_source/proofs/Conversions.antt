@@ -1,19 +1,21 @@
 -- Numbers and processes as cells, and conversions of values whose cells are kept.
-use Rattle.std.proofs.Common.{◌≡◌, ℕ, ℤ, pos, Bool, true, false, ◌&&◌, ◌||◌, List, [], ◌∷◌, ◌++◌, length, get_or, Option, Some, None, refl, sym, ap, ◌∙◌, subst}
-use Rattle.std.specs.Prelude.{Err, Ok, Result, slice_get}
+use Rattle.std.proofs.Common.{◌≡◌, ℕ, ℤ, pos, true, false, not, List, [], ◌∷◌, get_or, Option, Some, None, refl, sym, ap, ◌∙◌}
+use Rattle.std.proofs.lemmas.Int.{to_z-of_z}
+use Rattle.std.specs.Prelude.{Err, Ok, Result}
 use Rattle.cc_base.specs.Granted.{or_fault}
 use Rattle.cc_base.specs.Numbers.{converted}
 use Rattle.cc_base.specs.Outcome.{Left, Through, Asked, and_then}
 use Rattle.cc_base.specs.declared.names.FaultKind.{FaultKind}
 use Rattle.cc_base.specs.declared.numbers.NumberType.{NumberType}
 use Rattle.cc_base.specs.declared.request.Request.TheVariants as request
+use Rattle.cc_source.specs.Known.{and-left, and-right}
 use Rattle.cc_source.specs.Meaning.{Scope, converted_value}
 use Rattle.cc_typed.proofs.Flat.{flat-unflat}
 use Rattle.cc_typed.proofs.Partings.{same-type}
 use Rattle.cc_typed.specs.Layout.{cells}
 use Rattle.cc_typed.specs.Table.{element_within, layout_of}
 use Rattle.cc_typed.specs.Typed.{is_called}
-use Rattle.cc_typed.specs.Types.{is_arithmetic, is_assignable, is_process, is_process_of, is_same, number_in, of_number, of_process}
+use Rattle.cc_typed.specs.Types.{Int, is_arithmetic, is_assignable, is_process_of, number_in, of_number, of_process}
 use Rattle.cc_typed.specs.Values.{Number, number, unflat}
 use Rattle.cc_typed.specs.declared.tree.Transaction.{Transaction}
 use Rattle.cc_typed.specs.declared.types.DataType.{DataType}
@@ -39,6 +41,22 @@ module _ (structures : List Structure) where
   unfolding element_within cells
   process-size t kind e = ap (λ u. cells (layout_of structures u)) e
 
+  pub int-here : (k : ℤ) → unflat (layout_of structures Int) (k ∷ []) ≡ Number k
+  unfolding element_within unflat
+  int-here k = refl
+
+  pub int-size-here : cells (layout_of structures Int) ≡ 1
+  unfolding element_within cells
+  int-size-here = refl
+
+  pub process-here : (kind : ℕ) (k : ℤ) → unflat (layout_of structures (of_process kind)) (k ∷ []) ≡ Number k
+  unfolding element_within unflat
+  process-here kind k = refl
+
+  pub process-size-here : (kind : ℕ) → cells (layout_of structures (of_process kind)) ≡ 1
+  unfolding element_within cells
+  process-size-here kind = refl
+
   -- the number of a value whose cells are kept
   pub number-cells : (t : DataType) (cs : List ℤ) → is_arithmetic t ≡ true → number (unflat (layout_of structures t) cs) ≡ get_or cs 0 (pos 0)
   unfolding element_within unflat
@@ -59,15 +77,7 @@ module _ (structures : List Structure) where
   -- the process that is called
   pub called-cells : (o : Option Transaction) (t u : DataType) (cs : List ℤ) → is_called o t u ≡ true → number (unflat (layout_of structures t) cs) ≡ get_or cs 0 (pos 0)
   called-cells None t u cs b = cc
-  called-cells (Some tr) t u cs b = process-cells t tr.kind cs (right (left b))
-    where
-      left : {a c : Bool} → (a && c) ≡ true → a ≡ true
-      left {a = true} e = refl
-      left {a = false} e = cc
-
-      right : {a c : Bool} → (a && c) ≡ true → c ≡ true
-      right {a = true} e = e
-      right {a = false} e = cc
+  called-cells (Some tr) t u cs b = process-cells t tr.kind cs (and-right (not tr.is_async) _ (and-left _ _ b))
 
   numbers-convert : (t u : DataType) (cs : List ℤ) (r : Result ℤ FaultKind) (sc : Scope) (l : Left) → is_arithmetic t ≡ true → is_assignable t u ≡ true → r ≡ converted (number_in t) (number_in u) (get_or cs 0 (pos 0))
       → converted_value t u (unflat (layout_of structures t) cs) sc l ≡ and_then (or_fault r sc l) (λ n sc1 l1. Through (Number n) sc1 l1)
@@ -159,6 +169,10 @@ module _ (structures : List Structure) where
   pub same-size : (t u : DataType) → is_arithmetic t ≡ false → is_assignable t u ≡ true → cells (layout_of structures t) ≡ cells (layout_of structures u)
   same-size t u b a = ap (λ w. cells (layout_of structures w)) (same-kept t u b a)
 
-pub ruleset conversions = (convert-ok, convert-err, convert-size, convert-same, same-size)
+pub ruleset numbers = (to_z-of_z)
 
-pub ruleset cells_of_types = (number-cell, process-cell, number-size, process-size, number-cells, called-cells, same-type, flat-unflat)
+pub ruleset numbers_here = (to_z-of_z, int-here, int-size-here, process-here, process-size-here)
+
+pub ruleset conversions = (to_z-of_z, convert-ok, convert-err, convert-size, convert-same, same-size)
+
+pub ruleset cells_of_types = (to_z-of_z, number-cell, process-cell, number-size, process-size, number-cells, called-cells, same-type, flat-unflat)

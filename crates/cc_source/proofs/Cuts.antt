@@ -1,5 +1,5 @@
 -- Lists of cells that are cut or filled, and the values that they give.
-use Rattle.std.proofs.Common.{◌≡◌, ℕ, ℤ, pos, zero, suc, ◌+◌, ◌-◌, ◌<◌, ◌≤◌, min, List, [], ◌∷◌, ◌++◌, length, take, drop, get_or, replicate, Some, None, refl, sym, ap, ◌∙◌, subst, arith, append_assoc, append-nil}
+use Rattle.std.proofs.Common.{◌≡◌, ℕ, ℤ, pos, zero, suc, ◌+◌, ◌-◌, ◌<◌, ◌≤◌, true, min, List, [], ◌∷◌, ◌++◌, length, take, drop, get_or, replicate, Some, None, refl, sym, ap, ◌∙◌, subst, arith, append_assoc, append-nil}
 use Rattle.std.specs.Prelude.{slice_get}
 use Rattle.std.proofs.lemmas.List.{drop_all, length-replicate, take-append-drop}
 use Rattle.std.proofs.lemmas.Option.{unwrap_or-slice_get}
@@ -7,11 +7,12 @@ use Rattle.cc_source.specs.Gives.{Stand, blanks, fitted, fitted_each, seen}
 use Rattle.cc_source.specs.Meaning.{zero_in}
 use Rattle.cc_source.specs.Programs.{zero_all}
 use Rattle.cc_typed.proofs.Flat.{zero-unflat}
+use Rattle.cc_typed.proofs.Tables.{type-cells}
 use Rattle.cc_typed.specs.Layout.{Layout, One, Several, Layouts, no_layouts, and_layout, cells, cells_all}
 use Rattle.cc_typed.specs.Parts.{Parts}
 use Rattle.cc_typed.specs.Sequences.{drop-at}
-use Rattle.cc_typed.specs.Table.{layout_of, layouts_of}
-use Rattle.cc_typed.specs.Values.{Many, Number, and_value, unflat, unflat_all, unflats, zero_of}
+use Rattle.cc_typed.specs.Table.{cells_in, is_table, layout_of, layouts_of}
+use Rattle.cc_typed.specs.Values.{Many, and_value, unflat, unflat_all, unflats}
 use Rattle.cc_typed.specs.declared.types.DataType.{DataType}
 use Rattle.cc_typed.specs.declared.types.Structure.{Structure}
 
@@ -124,9 +125,9 @@ mutual
       let b = cells_all ls in
       let within : a ≤ a + b = omega arith in
       let first : unflat l (take a (fitted (a + b) cs)) ≡ unflat l (take a cs) =
-          ap (unflat l) (take-fitted a (a + b) cs within ∙ sym (fitted-take a cs)) ∙ unflat-fitted l (take a cs) in
+      ap (unflat l) (take-fitted a (a + b) cs within ∙ sym (fitted-take a cs)) ∙ unflat-fitted l (take a cs) in
       let rest : unflat_all ls (drop a (fitted (a + b) cs)) ≡ unflat_all ls (drop a cs) =
-          ap (unflat_all ls) (drop-fitted a b (a + b) cs refl) ∙ unflat_all-fitted ls (drop a cs) in
+      ap (unflat_all ls) (drop-fitted a b (a + b) cs refl) ∙ unflat_all-fitted ls (drop a cs) in
       ap (λ v. and_value v (unflat_all ls (drop a (fitted (a + b) cs)))) first ∙ ap (and_value (unflat l (take a cs))) rest
 
 pub fitted-taken : (l : Layout) (cs : List ℤ) → unflat l (fitted (cells l) cs) ≡ unflat l (take (cells l) cs)
@@ -207,4 +208,27 @@ pub blanks-end : (structures : List Structure) (ts : List DataType) (k : ℕ) �
 unfolding blanks
 blanks-end structures ts k e = ap (λ us. blanks (layouts_of structures us)) (drop_all k ts (omega arith))
 
-pub ruleset starts = (each-step, blanks-step, each-end, blanks-end, seen-start, stand-start, append_assoc, append-nil)
+-- a variable more
+pub each-more : (structures : List Structure) (ts : List DataType) (k : ℕ) (d : DataType) (cs ds : List ℤ) (all : List (List ℤ)) (n : ℕ) → k < length ts → is_table structures ≡ true → n ≡ cells_in structures (get_or ts k d) → ds ≡ fitted n cs
+    → (all ++ ds ∷ []) ++ fitted_each (layouts_of structures (drop (k + 1) ts)) (drop n cs) ≡ all ++ fitted_each (layouts_of structures (drop k ts)) cs
+each-more structures ts k d cs ds all n lt table e f =
+    let t = get_or ts k d in
+    let same : n ≡ cells (layout_of structures t) = e ∙ sym (type-cells structures t table) in
+    let rest = λ (m : ℕ). fitted_each (layouts_of structures (drop (k + 1) ts)) (drop m cs) in
+    append_assoc all (ds ∷ []) (rest n)
+    ∙ ap (λ xs. all ++ xs ∷ rest n) f
+    ∙ ap (λ m. all ++ fitted m cs ∷ rest m) same
+    ∙ ap (λ xs. all ++ xs) (sym (each-step structures ts k d cs lt))
+
+pub blanks-more : (structures : List Structure) (ts : List DataType) (k : ℕ) (d : DataType) (ds : List ℤ) (all : List (List ℤ)) (n : ℕ) → k < length ts → is_table structures ≡ true → n ≡ cells_in structures (get_or ts k d) → ds ≡ replicate n (pos 0)
+    → (all ++ ds ∷ []) ++ blanks (layouts_of structures (drop (k + 1) ts)) ≡ all ++ blanks (layouts_of structures (drop k ts))
+blanks-more structures ts k d ds all n lt table e f =
+    let t = get_or ts k d in
+    let same : n ≡ cells (layout_of structures t) = e ∙ sym (type-cells structures t table) in
+    let rest = blanks (layouts_of structures (drop (k + 1) ts)) in
+    append_assoc all (ds ∷ []) rest
+    ∙ ap (λ xs. all ++ xs ∷ rest) f
+    ∙ ap (λ m. all ++ replicate m (pos 0) ∷ rest) same
+    ∙ ap (λ xs. all ++ xs) (sym (blanks-step structures ts k d lt))
+
+pub ruleset starts = (each-more, blanks-more, each-step, blanks-step, each-end, blanks-end, seen-start, stand-start, append_assoc, append-nil)

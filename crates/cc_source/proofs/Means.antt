@@ -1,12 +1,11 @@
 -- The meaning of straight phrases, by the names that the code has.
 use Rattle.std.proofs.Common.{◌≡◌, ℕ, ℤ, true, List, [], ◌∷◌, ◌++◌, Option, refl, ap, ◌∙◌}
 use Rattle.std.specs.Prelude.{set}
-use Rattle.cc_base.specs.Granted.{create}
 use Rattle.cc_base.specs.Outcome.{Left, Outcome, Through, Asked, Eval, ◌>>=◌, ◌>>◌, and_then, pure}
 use Rattle.cc_base.specs.declared.numbers.NumberType.{NumberType}
 use Rattle.cc_source.specs.Known.{and-left}
-use Rattle.cc_source.specs.Lists.{assigned, byte_put, called_value, cells_given, created, exec_all, path_of, value_after}
-use Rattle.cc_source.specs.Meaning.{Caller, Ended, Flow, Replied, Scope, accepted, arguments, cells_of_type, converted_value, eval, exec, exec_row, given, part_number, path_along, step_from, stored, unless_left, value_along, value_at, value_in, value_of, zero_in}
+use Rattle.cc_source.specs.Lists.{assigned, byte_put, called_value, cells_given, created, process_from, exec_all, path_of, value_after}
+use Rattle.cc_source.specs.Meaning.{Caller, Ended, Flow, Replied, Scope, accepted, arguments, converted_value, eval, exec, exec_row, given, part_number, path_along, step_from, stored, unless_left, value_along, value_at, value_of, zero_in}
 use Rattle.cc_source.specs.Straight.{is_straight_location}
 use Rattle.cc_typed.specs.Parts.{Parts}
 use Rattle.cc_typed.specs.Sequences.{is_empty}
@@ -46,7 +45,7 @@ module _ (p : Parts) (call : Caller) where
   cells-row : {A : Type 0} {n : _} (row : Row_of-Argument n) (f : List ℤ → Eval Scope A) (sc : Scope) (l : Left) → and_then (arguments p call row sc l) (λ vs. f (flats vs)) ≡ and_then (cells_given p call (items-the_row-Argument n row) sc l) f
   unfolding eval
   cells-row end_of-Argument f sc l = refl
-  cells-row (more_of-Argument e t rest) f sc l = evaluated (eval p call e sc l)
+  cells-row (more_of-Argument e t rest) f sc l = evaluated (λ w. cells-row rest (λ cs. f (flat w ++ cs))) (eval p call e sc l)
     where
       listed : (w : Value) (o : Outcome Scope (List Value)) → and_then (and_then o (λ ws sc1 l1. Through (w ∷ ws) sc1 l1)) (λ vs. f (flats vs)) ≡ and_then o (λ ws. f (flat w ++ flats ws))
       listed w (Through ws sc1 l1) = refl
@@ -56,20 +55,22 @@ module _ (p : Parts) (call : Caller) where
       joined w (Through cs sc1 l1) = refl
       joined w (Asked q) = refl
 
-      converted : (o : Outcome Scope Value)
+      converted : ((w : Value) (sc1 : Scope) (l1 : Left) → and_then (arguments p call rest sc1 l1) (λ vs. f (flat w ++ flats vs)) ≡ and_then (cells_given p call (items-the_row-Argument _ rest) sc1 l1) (λ cs. f (flat w ++ cs)))
+          → (o : Outcome Scope Value)
           → and_then (and_then o (λ w. arguments p call rest >>= (λ ws. pure (w ∷ ws)))) (λ vs. f (flats vs))
           ≡ and_then (and_then o (λ w. cells_given p call (items-the_row-Argument _ rest) >>= (λ cs. pure (flat w ++ cs)))) f
-      converted (Through w sc1 l1) =
+      converted more (Through w sc1 l1) =
           listed w (arguments p call rest sc1 l1)
-          ∙ cells-row rest (λ cs. f (flat w ++ cs)) sc1 l1
+          ∙ more w sc1 l1
           ∙ joined w (cells_given p call (items-the_row-Argument _ rest) sc1 l1)
-      converted (Asked q) = refl
+      converted more (Asked q) = refl
 
-      evaluated : (o : Outcome Scope Value)
+      evaluated : ((w : Value) (sc1 : Scope) (l1 : Left) → and_then (arguments p call rest sc1 l1) (λ vs. f (flat w ++ flats vs)) ≡ and_then (cells_given p call (items-the_row-Argument _ rest) sc1 l1) (λ cs. f (flat w ++ cs)))
+          → (o : Outcome Scope Value)
           → and_then (and_then o (λ v. converted_value (type_of e) t v >>= (λ w. arguments p call rest >>= (λ ws. pure (w ∷ ws))))) (λ vs. f (flats vs))
           ≡ and_then (and_then o (λ v. converted_value (type_of e) t v >>= (λ w. cells_given p call (items-the_row-Argument _ rest) >>= (λ cs. pure (flat w ++ cs))))) f
-      evaluated (Through v sc1 l1) = converted (converted_value (type_of e) t v sc1 l1)
-      evaluated (Asked q) = refl
+      evaluated more (Through v sc1 l1) = converted more (converted_value (type_of e) t v sc1 l1)
+      evaluated more (Asked q) = refl
 
   cells-hidden : {A : Type 0} (args : List Argument) (f : List ℤ → Eval Scope A) (sc : Scope) (l : Left) → and_then (arguments p call (E.hidden-the_row-Argument-0 args) sc l) (λ vs. f (flats vs)) ≡ and_then (cells_given p call args sc l) f
   cells-hidden args f sc l =
@@ -110,7 +111,7 @@ module _ (p : Parts) (call : Caller) where
   pub eval-CreateProcess : (k : ℕ) (args : List Argument) (sc : Scope) (l : Left)
       → eval p call (CreateProcess k args) sc l ≡ created p call k args sc l
   unfolding eval
-  eval-CreateProcess k args sc l = cells-hidden args (λ cs. create k cs >>= (λ n. pure (Number n))) sc l
+  eval-CreateProcess k args sc l = cells-hidden args (process_from k) sc l
 
   pub eval-PutChar : (e : Expression) (sc : Scope) (l : Left) → eval p call (PutChar e) sc l ≡ (eval p call e >>= (λ v. byte_put (number v))) sc l
   unfolding eval E.shape-the_row-Expression-2 E.hidden-the_row-Expression-2 hidden

@@ -1,5 +1,5 @@
 -- Variables whose cells are kept, as their values.
-use Rattle.std.proofs.Common.{◌≡◌, ℕ, ℤ, pos, zero, suc, ◌+◌, ◌<◌, true, ◌&&◌, List, [], ◌∷◌, ◌++◌, length, map, take, drop, get_or, set, Option, Some, None, refl, sym, ap, ◌∙◌, arith, append_assoc, append-nil}
+use Rattle.std.proofs.Common.{◌≡◌, ℕ, ℤ, pos, zero, suc, ◌+◌, ◌<◌, ◌≤◌, true, ◌&&◌, List, [], ◌∷◌, ◌++◌, length, map, take, drop, get_or, set, Option, Some, None, refl, sym, ap, ◌∙◌, arith, append_assoc, append-nil}
 use Rattle.std.specs.Prelude.{nat_le, slice_get}
 use Rattle.std.proofs.lemmas.Bool.{eqb-true}
 use Rattle.std.proofs.lemmas.List.{drop_all}
@@ -20,7 +20,7 @@ use Rattle.cc_typed.specs.Sequences.{drop-at}
 use Rattle.cc_typed.specs.Table.{layout_of, layouts_of}
 use Rattle.cc_typed.specs.Typed.{Surroundings, has_parameter_variables, have_types_from, is_accepted, is_kind, is_of_kind, is_typed_but_for_sites, is_typed_program, is_typed_site}
 use Rattle.cc_typed.specs.Types.{is_same, is_same_all}
-use Rattle.cc_typed.specs.Values.{flat, flats, unflat, unflats}
+use Rattle.cc_typed.specs.Values.{Value, flat, flats, unflat, unflats}
 use Rattle.cc_typed.specs.declared.tree.Site.{Site}
 use Rattle.cc_typed.specs.declared.types.DataType.{DataType}
 use Rattle.cc_typed.specs.declared.types.Structure.{Structure}
@@ -48,6 +48,13 @@ module _ (structures : List Structure) where
   variable-there (u ∷ ts) [] x t s b e = s
   variable-there (u ∷ ts) (ds ∷ all) zero t s b e = cc
   variable-there (u ∷ ts) (ds ∷ all) (suc x) t s b e = variable-there ts all x t s.1 b e
+
+  -- a variable of a type is there, so none past the end is set
+  pub set-beyond : (ts : List DataType) (all : List (List ℤ)) (x : ℕ) (t : DataType) (v : Value) → is_of_type (slice_get ts x) t ≡ true → Stand structures ts all → length all ≤ x → seen structures ts all ≡ set (seen structures ts all) x v
+  set-beyond [] all x t v b s le = cc
+  set-beyond (u ∷ ts) [] x t v b s le = absurd s
+  set-beyond (u ∷ ts) (ds ∷ all) zero t v b s le = absurd (omega arith)
+  set-beyond (u ∷ ts) (ds ∷ all) (suc x) t v b s le = ap (λ vs. unflat (layout_of structures u) ds ∷ vs) (set-beyond ts all x t v b s.1 (omega arith))
 
   set-seen : (ts : List DataType) (all : List (List ℤ)) (x : ℕ) (t : DataType) (cs : List ℤ) → is_of_type (slice_get ts x) t ≡ true → Stand structures ts all → length cs ≡ cells (layout_of structures t)
       → (seen structures ts (set all x cs) ≡ set (seen structures ts all) x (unflat (layout_of structures t) cs)) × Stand structures ts (set all x cs)
@@ -90,7 +97,7 @@ module _ (structures : List Structure) where
   pub taken-step : (ts : List DataType) (k : ℕ) (d : DataType) (cs : List ℤ) (x : ℕ) (sc : Scope) → k < length ts
       → set_from x (unflats (layouts_of structures (drop k ts)) cs) sc
       ≡ set_from (x + 1) (unflats (layouts_of structures (drop (k + 1) ts)) (drop (cells (layout_of structures (get_or ts k d))) cs))
-        (set sc x (unflat (layout_of structures (get_or ts k d)) (fitted (cells (layout_of structures (get_or ts k d))) cs)))
+      (set sc x (unflat (layout_of structures (get_or ts k d)) (fitted (cells (layout_of structures (get_or ts k d))) cs)))
   taken-step ts k d cs x sc lt =
       let t = get_or ts k d in
       let l = layout_of structures t in
@@ -152,6 +159,6 @@ accept-types p s site typed at body accepted = go (slice_get p.sites site) refl 
         let same : variables_of (slice_get p.kinds found.kind) ≡ s.variables = ap (body_variables p) (sym kind) ∙ body in
         ap (λ vs. have_types_from (parameters_at (slice_get p.transactions found.transaction)) vs found.first) (sym same) ∙ variables
 
-pub ruleset scopes = (variable-value, variable-size, variable-there, set-scope, set-stands)
+pub ruleset scopes = (set-beyond, variable-value, variable-size, variable-there, set-scope, set-stands)
 
 pub ruleset accepts = (type-cells, variable-flat, missing-flat, taken-step, taken-end, environment-step, environment-end, parameter-type, accept-types, append_assoc, append-nil)

@@ -1,5 +1,5 @@
 -- Which phrases are straight, by the names that the code has.
-use Rattle.std.proofs.Common.{◌≡◌, ℕ, ℤ, true, false, ◌&&◌, List, [], ◌∷◌, Option, refl, ap, ◌∙◌}
+use Rattle.std.proofs.Common.{◌≡◌, ℕ, ℤ, true, false, ◌&&◌, List, Option, refl, ap, ◌∙◌}
 use Rattle.std.specs.List.{list_all}
 use Rattle.cc_base.specs.Numbers.{is_int}
 use Rattle.cc_base.specs.declared.numbers.NumberType.{NumberType}
@@ -226,4 +226,3 @@ statement-Accept part = row-statements _ (S.hidden-the_row-Statement-0 part.bloc
 pub ruleset straight_expressions = (straight-Constant, straight-GetChar, straight-Read, straight-Chain, straight-Negate, straight-Not, straight-Plus, straight-Parenthesized, straight-ChangeBefore, straight-ChangeAfter, straight-Arithmetic, straight-Compare, straight-Both, straight-Either, straight-Choose, straight-Assign, straight-Update, straight-CallFunction, straight-CreateProcess, straight-Within, straight-PutChar, straight-PrintFormat, step-Part, step-Call, step-Send)
 
 pub ruleset straight_statements = (statement-Empty, statement-Evaluate, statement-Declare, statement-TransactionReturn, statement-Block, statement-Accept, statement-Initialize, statement-If, statement-IfElse, statement-While, statement-DoWhile, statement-For, statement-Break, statement-Continue, statement-Return, statement-Finish, statement-Delay, statement-Select)
-

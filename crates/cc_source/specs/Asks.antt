@@ -1,5 +1,5 @@
 -- The statements of a straight typed program, and the program whole, ask only what is known.
-use Rattle.std.proofs.Common.{◌≡◌, ℕ, ◌<◌, ◌≤◌, ℤ, zero, suc, Bool, true, false, ◌&&◌, ◌||◌, List, [], ◌∷◌, length, map, take, drop, Option, Some, None, refl, ap, sym, ◌∙◌, subst, arith}
+use Rattle.std.proofs.Common.{◌≡◌, ℕ, ◌<◌, ◌≤◌, ℤ, zero, suc, Bool, true, false, ◌&&◌, ◌||◌, List, [], ◌∷◌, length, map, take, drop, Option, Some, None, refl, ap, ◌∙◌, subst, arith}
 use Rattle.std.specs.List.{list_all}
 use Rattle.std.specs.Prelude.{slice_get, nat_lt, if◌then◌else◌, is_some, nat_eq}
 use Rattle.std.proofs.lemmas.Bool.{eqb-true}
@@ -25,10 +25,10 @@ use Rattle.cc_typed.specs.Phrases.{branch, branches, while_loop, do_loop, for_lo
 use Rattle.cc_source.specs.Programs.{act, body, call, cells_all, fit, left_at_start, meaning, parameter_cells, shape_of, site_rank, variables_at_start}
 use Rattle.cc_source.specs.Straight.{are_straight_statements, is_straight_option, is_straight_program, is_straight_statement, is_straight_type, is_straight_value}
 use Rattle.cc_typed.specs.KnownTypes.{is_process_type, is_whole}
-use Rattle.cc_typed.specs.Typed.{Surroundings, are_typed_kinds, is_typed_but_for_sites, are_typed_statements, are_typed_structures, are_variables, has_few_parts, has_main, is_accepted, is_given, is_of_kind, is_typed_function, is_typed_kind, is_typed_program, is_typed_site, is_typed_statement, is_typed_transaction}
+use Rattle.cc_typed.specs.Typed.{Surroundings, are_typed_kinds, is_typed_but_for_sites, are_typed_statements, are_typed_structures, are_variables, has_few_parts, has_main, is_accepted, is_given, is_of_kind, is_typed_kind, is_typed_program, is_typed_site, is_typed_statement}
 use Rattle.cc_typed.specs.Parting.{is_of_type}
 use Rattle.cc_typed.specs.Table.{layout_of, layouts_of}
-use Rattle.cc_typed.specs.Types.{is_assignable, is_void, type_of}
+use Rattle.cc_typed.specs.Types.{is_void, type_of}
 use Rattle.cc_typed.specs.Values.{HasLayout, unflats}
 use Rattle.cc_typed.specs.declared.types.DataType.{DataType}
 use Rattle.cc_typed.specs.declared.tree.Expression.{Expression}

@@ -1,33 +1,29 @@
 -- What a straight typed program asks names what is there, and its phrases give values of their types.
-use Rattle.std.proofs.Common.{◌≡◌, ℕ, ◌<◌, ℤ, pos, zero, suc, Bool, true, false, ◌&&◌, List, [], ◌∷◌, ◌++◌, length, map, take, drop, get_or, set, Option, Some, None, refl, ap, sym, ◌∙◌, subst, arith}
+use Rattle.std.proofs.Common.{◌≡◌, ℕ, ◌<◌, ℤ, pos, zero, suc, Bool, true, false, ◌&&◌, List, [], ◌∷◌, ◌++◌, length, map, take, drop, get_or, set, Some, refl, ap, sym, subst, arith}
 use Rattle.std.specs.List.{list_all}
 use Rattle.std.specs.Prelude.{Err, Ok, Result, replicate, slice_get}
 use Rattle.std.specs.Option.{option_map}
-use Rattle.cc_base.specs.Granted.{call_cells, create, or_fault, put_byte, transact}
-use Rattle.cc_base.specs.Numbers.{callee, number_of}
+use Rattle.cc_base.specs.Granted.{call_cells, or_fault}
 use Rattle.cc_base.specs.Outcome.{Left, Outcome, Through, Asked, Eval, and_then, ask}
 use Rattle.cc_base.specs.Requests.{IsRequestOf, NamesSites}
 use Rattle.cc_base.specs.Supported.{IsSupported}
 use Rattle.cc_base.specs.declared.names.FaultKind.{FaultKind}
-use Rattle.cc_base.specs.declared.names.Pid.{Pid}
 use Rattle.cc_base.specs.declared.names.Shape.{Shape}
 use Rattle.cc_base.specs.declared.numbers.NumberType.TheVariants as numeric
 use Rattle.cc_base.specs.declared.request.Grant.{Grant}
 use Rattle.cc_base.specs.declared.request.Grant.TheVariants as grant
 use Rattle.cc_base.specs.declared.request.Request.{Request}
-use Rattle.cc_base.specs.declared.request.Request.TheVariants as request
-use Rattle.cc_source.specs.Meaning.{Scope, set_from, zero_in}
+use Rattle.cc_source.specs.Meaning.{Scope, set_from}
 use Rattle.cc_source.specs.Programs.{cells_all, meaning, parameter_cells, shape_of, zero_all}
-use Rattle.cc_source.specs.Straight.{is_straight_type, is_straight_value}
-use Rattle.cc_typed.proofs.Flat.{length-flats, unflat-has, zero-unflat}
-use Rattle.cc_typed.proofs.Partings.{same-type}
-use Rattle.cc_typed.specs.Layout.{Layout, One, Several, cells, cells_each, no_layouts}
+use Rattle.cc_source.specs.Straight.{is_straight_type}
+use Rattle.cc_typed.proofs.Flat.{unflat-has, zero-unflat}
+use Rattle.cc_typed.specs.Layout.{Layout, One, cells}
 use Rattle.cc_typed.specs.Missing.{parameters_at}
 use Rattle.cc_typed.specs.Parts.{Parts}
 use Rattle.cc_typed.specs.Table.{element_within, layout_of, layouts_of}
 use Rattle.cc_typed.specs.Typed.{is_called, kind_parameters}
 use Rattle.cc_typed.specs.Types.{of_number, of_process}
-use Rattle.cc_typed.specs.Values.{AreOf, HasLayout, HaveLayouts, Value, Number, flats, nought, unflat, unflats, zero_of}
+use Rattle.cc_typed.specs.Values.{HasLayout, Value, Number, nought, unflat, unflats, zero_of}
 use Rattle.cc_typed.specs.declared.tree.Kind.{Kind}
 use Rattle.cc_typed.specs.declared.tree.Transaction.{Transaction}
 use Rattle.cc_typed.specs.declared.types.DataType.{DataType}
@@ -104,9 +100,10 @@ module _ (structures : List Structure) where
   unflats-ones [] cs h = tt
   unflats-ones (t ∷ us) cs h =
       let l = layout_of structures t in
-      let here : HasLayout l (unflat l (take (cells l) cs)) = unflat-has l (take (cells l) cs) in
-      (subst (λ m. HasLayout m (unflat l (take (cells l) cs))) (straight-one t (and-left _ _ h)) here,
-       unflats-ones us (drop (cells l) cs) (and-right (is_straight_type t) _ h))
+      let here : HasLayout l (unflat l (take (cells l) cs)) = unflat-has l (take (cells l) cs) in (
+        subst (λ m. HasLayout m (unflat l (take (cells l) cs))) (straight-one t (and-left _ _ h)) here,
+        unflats-ones us (drop (cells l) cs) (and-right (is_straight_type t) _ h),
+      )
 
 pub zero-has : (l : Layout) → HasLayout l (zero_of l)
 zero-has l = subst (HasLayout l) (zero-unflat l) (unflat-has l (replicate (cells l) (pos 0)))
@@ -114,9 +111,10 @@ zero-has l = subst (HasLayout l) (zero-unflat l) (unflat-has l (replicate (cells
 pub zeros-ones : (p : Parts) (us : List DataType) → list_all is_straight_type us ≡ true → Ones (zero_all p us)
 zeros-ones p [] h = tt
 zeros-ones p (t ∷ us) h =
-    let l = layout_of p.structures t in
-    (subst (λ m. HasLayout m (zero_of l)) (straight-one p.structures t (and-left _ _ h)) (zero-has l),
-     zeros-ones p us (and-right (is_straight_type t) _ h))
+    let l = layout_of p.structures t in (
+      subst (λ m. HasLayout m (zero_of l)) (straight-one p.structures t (and-left _ _ h)) (zero-has l),
+      zeros-ones p us (and-right (is_straight_type t) _ h),
+    )
 
 pub kind-cells : (p : Parts) (kinds : List Kind) (k n : ℕ) → k < length kinds → n ≡ cells_all p (kind_parameters (slice_get kinds k)) → slice_get (map (parameter_cells p) kinds) k ≡ Some n
 kind-cells p [] k n lt e = absurd (omega arith)

@@ -13,6 +13,12 @@ use Rattle.cc_typed.specs.declared.tree.PartStep.{PartStep}
 use Rattle.cc_typed.specs.declared.tree.Statement.{Statement}
 use Rattle.cc_typed.specs.declared.types.DataType.{DataType}
 
+-- a new process of this kind with these cells
+abbrev pub process_from : ℕ → List ℤ → Eval Scope Value
+process_from k cs = do
+  n ← create k cs
+  pure (Number n)
+
 module _ (p : Parts) (call : Caller) where
   -- the path along steps from a place of this type, after this path
   abbrev pub path_of : DataType → List ℕ → List PartStep → Eval Scope (List ℕ)
@@ -46,10 +52,7 @@ module _ (p : Parts) (call : Caller) where
 
   -- a new process of this kind with these arguments
   abbrev pub created : ℕ → List Argument → Eval Scope Value
-  created k args = do
-    cs ← cells_given args
-    n ← create k cs
-    pure (Number n)
+  created k args = cells_given args >>= process_from k
 
 -- the value with which a call of a transaction was answered that gives one of this type
 abbrev pub answer_value : Parts → DataType → Grant → Eval Scope Value

@@ -1,5 +1,5 @@
 -- What a phrase does, on values.
-use Rattle.std.specs.Prelude.{ℕ, zero, suc, ◌+◌, ℤ, pos, negsuc, List, [], ◌∷◌, ◌++◌, map, get_or, set, Option, Some, None, true, false, slice_get, Result}
+use Rattle.std.specs.Prelude.{ℕ, zero, suc, ℤ, pos, negsuc, List, [], ◌∷◌, ◌++◌, map, get_or, set, Option, Some, None, true, false, slice_get, Result}
 use Rattle.cc_base.specs.Granted.{alternative_taken, args_taken, create, delay, get_byte, or_fault, print_format, put_byte, reply, select, send, transact, transact_within}
 use Rattle.cc_base.specs.Loops.{loops}
 use Rattle.cc_base.specs.Numbers.{at_zero, compared, converted, indexed, logical_not, operated, opposite, truth, truth_of, updated}

@@ -1,30 +1,29 @@
 -- The phrases of a straight typed program give values of their types, and ask only what can be performed.
-use Rattle.std.proofs.Common.{◌≡◌, ℕ, ◌+◌, ℤ, pos, true, false, ◌&&◌, ◌||◌, not, List, [], ◌∷◌, length, Option, Some, refl, ap, sym, ◌∙◌, subst, arith, length-append, ◌<◌}
+use Rattle.std.proofs.Common.{◌≡◌, ℕ, ℤ, true, false, ◌&&◌, not, List, [], ◌∷◌, length, Option, Some, refl, ap, sym, ◌∙◌, subst, arith, length-append, ◌<◌}
 use Rattle.std.specs.Prelude.{slice_get, nat_lt}
 use Rattle.std.proofs.lemmas.Bool.{ltb-true}
-use Rattle.cc_base.specs.Granted.{call_cells, create, process_made, or_fault, put_byte, transact}
+use Rattle.cc_base.specs.Granted.{create, or_fault, put_byte, transact}
 use Rattle.cc_base.specs.Grants.{argument_cells}
 use Rattle.cc_base.specs.Numbers.{byte_of, callee, converted, is_char, is_int, is_long}
 use Rattle.cc_base.specs.Outcome.{Left, Through, and_then, ask, ◌>>=◌}
 use Rattle.cc_base.specs.declared.numbers.NumberType.TheVariants as numeric
-use Rattle.cc_base.specs.declared.request.Grant.{Grant}
 use Rattle.cc_base.specs.declared.request.Request.TheVariants as request
-use Rattle.cc_source.specs.Known.{IsOf, IsOne, Ones, Safe, and-left, and-right, ask-safe, cells-safe, fault-safe, kind-cells, one-Number, one-at, ones-set, safe, straight-one, takes-cells}
+use Rattle.cc_source.specs.Known.{IsOf, IsOne, Ones, Safe, and-left, and-right, ask-safe, cells-safe, fault-safe, kind-cells, one-at, ones-set, safe, straight-one, takes-cells}
 use Rattle.cc_source.specs.Meaning.{Caller, Scope, arguments, converted_value, eval, path_along, step_from, stored, transacted, value_along, value_of}
 use Rattle.cc_source.specs.Programs.{cells_all, meaning}
 use Rattle.cc_source.specs.Straight.{are_straight_row, are_straight_steps, is_straight, is_straight_place, is_straight_step, is_straight_type, is_straight_value}
 use Rattle.cc_typed.proofs.Flat.{length-flat, unflat-has}
 use Rattle.cc_typed.proofs.Partings.{same-type}
 use Rattle.cc_typed.specs.KnownTypes.{is_process_type}
-use Rattle.cc_typed.specs.Layout.{One, cells, cells_each}
+use Rattle.cc_typed.specs.Layout.{cells}
 use Rattle.cc_typed.specs.Missing.{parameters_at}
 use Rattle.cc_typed.specs.Parting.{is_of_type}
 use Rattle.cc_typed.specs.Parts.{Parts}
 use Rattle.cc_typed.specs.Phrases.{negate, not_of, plus, parenthesized, choose, put_char}
 use Rattle.cc_typed.specs.Table.{element_within, layout_of}
 use Rattle.cc_typed.specs.Typed.{Surroundings, are_typed_arguments, are_typed_parts, are_typed_steps, begins_with_part, is_called, is_place, is_typed, is_typed_step, kind_parameters}
-use Rattle.cc_typed.specs.Types.{Int, is_arithmetic, is_assignable, is_same, of_number, of_process, type_after_step, type_of}
-use Rattle.cc_typed.specs.Values.{HasLayout, Number, Value, flat, flats, number, unflat}
+use Rattle.cc_typed.specs.Types.{Int, is_assignable, is_same, of_number, of_process, type_after_step, type_of}
+use Rattle.cc_typed.specs.Values.{HasLayout, Number, Value, flat, flats, number}
 use Rattle.cc_typed.specs.declared.tree.ChainStep.{ChainStep, Part, Call', Send', Row_of-Argument, end_of-Argument, more_of-Argument}
 use Rattle.cc_typed.specs.declared.tree.Expression.{Expression, Constant, GetChar, Read', Chain', ChangeBefore', ChangeAfter', Arithmetic', Compare', Both', Either', Assign', Update', CallFunction', CreateProcess', Within', PrintFormat', end_of-Expression, more_of-Expression, Row_of-PartStep, end_of-PartStep, more_of-PartStep, Row_of-ChainStep, end_of-ChainStep, more_of-ChainStep}
 use Rattle.cc_typed.specs.declared.types.DataType.{DataType}

@@ -1,5 +1,6 @@
 ghost use Rattle.std.specs.List.{list_all};
 ghost use Rattle.std.specs.Prelude.{◌≡◌, ◌&&◌, not, true, length, slice_get, Some};
+ghost use Rattle.cc_base.specs.Numbers.{is_int};
 ghost use Rattle.cc_source.specs.Straight.{is_straight, is_straight_argument, is_straight_kind, is_straight_location, is_straight_option, is_straight_program, is_straight_site, is_straight_statement, is_straight_step, is_straight_transaction, is_straight_type, is_straight_value};
 
 use crate::program::Program;
@@ -44,6 +45,13 @@ fn straight_types(types: &[DataType]) -> bool
     true
 }
 
+#[tactic(auto, unfolding(cc_base::specs::Numbers::is_int))]
+fn straight_number(t: NumberType) -> bool
+    ensures { result ≡ is_int t }
+{
+    matches!(t, NumberType::Int)
+}
+
 /// Whether it is a variable as a whole, of a straight type.
 fn straight_location(place: &Location) -> bool
     ensures { result ≡ is_straight_location place.now }
@@ -58,7 +66,7 @@ fn straight_expression(e: &Expression) -> bool
     ensures { result ≡ is_straight e.now }
 {
     match e {
-        Expression::Constant { number_type, .. } => matches!(number_type, NumberType::Int),
+        Expression::Constant { number_type, .. } => straight_number(*number_type),
         Expression::Read { from } => straight_location(from),
         Expression::Chain {
             first,
@@ -100,7 +108,9 @@ fn straight_step(step: &ChainStep) -> bool
     match step {
         ChainStep::Part { .. } => false,
         ChainStep::Call {
-            args, data_type, ..
+            args,
+            data_type,
+            ..
         } => straight_arguments(args.as_slice()) && straight_value(*data_type),
         ChainStep::Send { .. } => false,
     }

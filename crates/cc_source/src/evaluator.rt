@@ -2,23 +2,23 @@ ghost use Rattle.std.specs.List.{list_all};
 ghost use Rattle.std.specs.Option.{option_copied};
 ghost use Rattle.std.specs.Prelude.{◌≡◌, true, get_or, length, pos, replicate, set, slice_get, IfOk};
 ghost use Rattle.cc_base.specs.Granted.{process_made};
+ghost use Rattle.cc_base.specs.Numbers.{callee, converted};
 ghost use Rattle.cc_base.specs.Outcome.{ask};
 ghost use Rattle.cc_source.specs.Gives.{GivesBy, IfValue, fitted, Stands, around, caller, is_typed_argument, left, scope, size, structures_of, value};
-ghost use Rattle.cc_source.specs.Lists.{answer_value, assigned, byte_put, called_value, cells_given, created, value_after};
+ghost use Rattle.cc_source.specs.Lists.{answer_value, assigned, byte_put, called_value, cells_given, created, process_from, value_after};
 ghost use Rattle.cc_source.specs.Meaning.{converted_value, eval, step_from, value_at, value_in, zero_in};
 ghost use Rattle.cc_source.specs.Straight.{is_straight, is_straight_argument, is_straight_location, is_straight_step};
 ghost use Rattle.cc_typed.specs.Parting.{is_of_type};
 ghost use Rattle.cc_typed.specs.Table.{is_table};
 ghost use Rattle.cc_typed.specs.Typed.{is_typed, is_typed_step};
 ghost use Rattle.cc_typed.specs.TypedLists.{is_typed_location, steps_typed};
-ghost use Rattle.cc_typed.specs.Types.{Int, is_assignable, of_process, type_after_step, type_of};
+ghost use Rattle.cc_typed.specs.Types.{Int, is_arithmetic, is_assignable, number_in, of_process, type_after_step, type_of};
 
 use crate::cells::{append, fitted, items_from, number_of, one_cell, zeros};
 use crate::program::Program;
 use crate::run::{Run, Unfinished};
-use cc_base::arithmetic;
 use cc_base::limits::TICKS_GRANTED;
-use cc_base::{Bytes, Cells, FaultKind, Grant, Request};
+use cc_base::{Bytes, Cells, FaultKind, Grant, Pid, Request, arithmetic};
 use cc_typed::{Argument, ChainStep, DataType, Expression, Location, cells_in};
 use sqlite_items::Items;
 use std::alloc::Global;
@@ -136,16 +136,31 @@ impl Evaluator<'_> {
         ensures value { GivesBy (value self.now to) self.now result run.now (converted_value from to (value self.now from cells) (scope self.now run.now) (left run.now)) }
         ensures size { IfOk result (λ cs. length cs ≡ size self.now to) }
     {
-        let _ = run;
         if from.is_arithmetic() {
-            let number = arithmetic::convert(
-                from.number_type(),
-                to.number_type(),
-                number_of(cells.as_slice()),
-            )?;
-            Ok(one_cell(self.alloc, number)?)
+            self.convert_number(run, from, to, cells.as_slice())
         } else {
             Ok(cells)
+        }
+    }
+
+    /// The same of a number.
+    #[tactic(auto, using(crate::proofs::Conversions::conversions))]
+    fn convert_number(
+        &self,
+        run: &Run<'_>,
+        from: DataType,
+        to: DataType,
+        cells: &[i64],
+    ) -> Result<Items<i64>, Unfinished>
+        requires arithmetic { is_arithmetic from ≡ true }
+        requires assignable { is_assignable from to ≡ true }
+        ensures value { GivesBy (value self.now to) self.now result run.now (converted_value from to (value self.now from cells.now) (scope self.now run.now) (left run.now)) }
+        ensures size { IfOk result (λ cs. length cs ≡ size self.now to) }
+    {
+        let _ = run;
+        match converted(from, to, cells) {
+            Ok(number) => Ok(one_cell(self.alloc, number)?),
+            Err(kind) => Err(Unfinished::Asked(Request::Fault { kind })),
         }
     }
 
@@ -175,7 +190,13 @@ impl Evaluator<'_> {
                 data_type,
             } => {
                 let cells = self.expression(run, first.get())?;
-                self.along(run, first.get().data_type(), cells, steps.as_slice(), *data_type)
+                self.along(
+                    run,
+                    first.get().data_type(),
+                    cells,
+                    steps.as_slice(),
+                    *data_type,
+                )
             }
             Expression::Assign { to, value } => {
                 let cells = self.expression(run, value.get())?;
@@ -260,7 +281,7 @@ impl Evaluator<'_> {
                 data_type,
             } => {
                 let args = self.arguments(run, args.as_slice())?;
-                self.transact(run, *transaction, number_of(whole), args, *data_type)
+                self.transact(run, *transaction, whole, args, *data_type)
             }
             ChainStep::Part { .. } => unreachable!(),
             ChainStep::Send { .. } => unreachable!(),
@@ -287,31 +308,36 @@ impl Evaluator<'_> {
         Ok(all)
     }
 
-    /// A synchronous call of the process of this number, of a transaction with a value of this type.
+    /// A synchronous call of the process that these cells name, of a transaction with a value of this type.
     #[tactic(auto, using(crate::proofs::Evaluations::calling))]
     fn transact(
         &self,
         run: &mut Run<'_>,
         transaction: u32,
-        process: i64,
+        process: &[i64],
         args: Cells,
         data_type: DataType,
     ) -> Result<Items<i64>, Unfinished>
         requires table { is_table (structures_of self.now) ≡ true }
-        ensures value { GivesBy (value self.now data_type) self.now result run.new (called_value self.now.program.now transaction data_type process args (scope self.now run.old) (left run.old)) }
+        ensures value { GivesBy (value self.now data_type) self.now result run.new (called_value self.now.program.now transaction data_type (get_or process.now 0 (pos 0)) args (scope self.now run.old) (left run.old)) }
         ensures size { IfOk result (λ cs. length cs ≡ size self.now data_type) }
         ensures scope { run.new.scope ≡ run.old.scope }
     {
-        let target = arithmetic::callee(process)?;
-        let grant = self.ask(
-            run,
-            Request::Call {
-                target,
-                trans: transaction,
-                args,
-            },
-        )?;
-        self.call_value(run, data_type, grant)
+        match callee(process) {
+            Ok(target) => {
+                let trans = transaction;
+                let grant = self.ask(
+                    run,
+                    Request::Call {
+                        target,
+                        trans,
+                        args,
+                    },
+                )?;
+                self.call_value(run, data_type, grant)
+            }
+            Err(kind) => Err(Unfinished::Asked(Request::Fault { kind })),
+        }
     }
 
     /// The value with which a call was answered.
@@ -332,7 +358,9 @@ impl Evaluator<'_> {
                 let cells = items_from(self.alloc, cells)?;
                 self.fit(data_type, cells.as_slice())
             }
-            Grant::Gone => Err(Unfinished::from(FaultKind::CalleeGone)),
+            Grant::Gone => Err(Unfinished::Asked(Request::Fault {
+                kind: FaultKind::CalleeGone,
+            })),
             Grant::Go => self.zero(data_type),
             Grant::Made(_) => self.zero(data_type),
             Grant::Late => self.zero(data_type),
@@ -368,7 +396,7 @@ impl Evaluator<'_> {
 
     /// A new process of this kind, as a number.
     #[cycle(expressions)]
-    #[tactic(auto, using(crate::proofs::Evaluations::evaluating, crate::proofs::Weights::weighs, crate::proofs::Conversions::cells_of_types))]
+    #[tactic(auto, using(crate::proofs::Weights::weighs))]
     fn create(
         &self,
         run: &mut Run<'_>,
@@ -384,12 +412,27 @@ impl Evaluator<'_> {
         ensures stands { IfOk result (λ cs. Stands self.now run.new) }
     {
         let args = self.arguments(run, args)?;
+        self.create_with(run, kind, args)
+    }
+
+    /// A new process of this kind with these cells, as a number.
+    #[tactic(auto, using(crate::proofs::Conversions::numbers_here))]
+    fn create_with(
+        &self,
+        run: &mut Run<'_>,
+        kind: u32,
+        args: Cells,
+    ) -> Result<Items<i64>, Unfinished>
+        ensures value { GivesBy (value self.now (of_process kind)) self.now result run.new (process_from kind args (scope self.now run.old) (left run.old)) }
+        ensures size { IfOk result (λ cs. length cs ≡ size self.now (of_process kind)) }
+        ensures scope { run.new.scope ≡ run.old.scope }
+    {
         let grant = self.ask(run, Request::Create { kind, args })?;
         Ok(one_cell(self.alloc, process_made(grant))?)
     }
 
     /// Prints a number as one byte.
-    #[tactic(auto, using(crate::proofs::Conversions::cells_of_types))]
+    #[tactic(auto, using(crate::proofs::Conversions::numbers_here))]
     fn put_byte(&self, run: &mut Run<'_>, number: i64) -> Result<Items<i64>, Unfinished>
         requires stands { Stands self.now run.old }
         ensures value { GivesBy (value self.now Int) self.now result run.new (byte_put number (scope self.now run.old) (left run.old)) }
@@ -401,6 +444,22 @@ impl Evaluator<'_> {
         self.ask(run, Request::Print { bytes })?;
         Ok(one_cell(self.alloc, i64::from(byte))?)
     }
+}
+
+/// A number of the first type as one of the second.
+#[tactic(auto, using(crate::proofs::Conversions::numbers))]
+fn converted(from: DataType, to: DataType, cells: &[i64]) -> Result<i64, FaultKind>
+    ensures number { result ≡ converted (number_in from) (number_in to) (get_or cells.now 0 (pos 0)) }
+{
+    arithmetic::convert(from.number_type(), to.number_type(), number_of(cells))
+}
+
+/// The process that these cells name.
+#[tactic(auto, using(crate::proofs::Conversions::numbers))]
+fn callee(cells: &[i64]) -> Result<Pid, FaultKind>
+    ensures process { result ≡ callee (get_or cells.now 0 (pos 0)) }
+{
+    arithmetic::callee(number_of(cells))
 }
 
 /// The process that was made, as a number.

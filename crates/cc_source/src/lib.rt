@@ -17,7 +17,7 @@ mod run;
 mod statements;
 
 pub use cc_typed::{
-    AcceptPart, Alternative, Argument, Change, ChainStep, Choice, Compared, Comparison, DataType,
+    AcceptPart, Alternative, Argument, ChainStep, Change, Choice, Compared, Comparison, DataType,
     ElementType, Expression, Field, Function, Kind, Location, NumberType, Operation, Operator,
     PartStep, ProgramParts, Site, Statement, Structure, Transaction,
 };

@@ -3,7 +3,7 @@ ghost use Rattle.cc_base.specs.Grants.{HasKind};
 ghost use Rattle.cc_base.specs.Outcome.{asked_by};
 ghost use Rattle.cc_base.specs.declared.request.Request.TheVariants.{Done};
 ghost use Rattle.cc_source.specs.Gives.{blanks, fitted_each};
-ghost use Rattle.cc_source.specs.Programs.{act, body, fit, meaning, shape_of, site_rank};
+ghost use Rattle.cc_source.specs.Programs.{act, body, fit, meaning, parameter_cells, shape_of, site_rank};
 ghost use Rattle.cc_source.specs.Straight.{is_straight_program, is_straight_site};
 ghost use Rattle.cc_typed.specs.Missing.{parameters_at};
 ghost use Rattle.cc_typed.specs.Table.{cells_in, cells_in_all, is_table, layouts_of};
@@ -25,7 +25,11 @@ fn sum_within(before: u32, cells: u64, most: u32) -> Option<u32>
     ensures sum { MatchOption result (most < before + cells) (λ sum. (sum ≡ before + cells) × sum ≤ most) }
 {
     match u64::from(before).checked_add(cells) {
-        Some(sum) => if sum <= u64::from(most) { Some(sum as u32) } else { None },
+        Some(sum) => if sum <= u64::from(most) {
+            Some(sum as u32)
+        } else {
+            None
+        },
         None => None,
     }
 }
@@ -112,7 +116,12 @@ fn scope_at_start(
     ensures cells { IfOk result (λ all. all ≡ fitted_each (layouts_of program.now.structures (take kind.now.parameters kind.now.variables)) args.now ++ blanks (layouts_of program.now.structures (drop kind.now.parameters kind.now.variables))) }
 {
     let args = items_from(alloc, args)?;
-    let mut all = split(alloc, program.structures.as_slice(), parameters(kind), args.as_slice())?;
+    let mut all = split(
+        alloc,
+        program.structures.as_slice(),
+        parameters(kind),
+        args.as_slice(),
+    )?;
     put_zeros(alloc, program.structures.as_slice(), &mut all, others(kind))?;
     Ok(all)
 }
@@ -196,14 +205,9 @@ impl Program {
         requires straight { is_straight_program self.now ≡ true }
         ensures cells { result ≡ slice_get (meaning self.now).kinds kind }
     {
-        let found = self.kinds.get(kind as usize)?;
-        match cells_within(
-            self.structures.as_slice(),
-            parameters(found),
-            MOST_PARAMETER_CELLS,
-        ) {
-            Some(cells) => Some(cells as usize),
-            None => unreachable!(),
+        match self.kinds.get(kind as usize) {
+            Some(found) => Some(parameter_cells(self, kind, found) as usize),
+            None => None,
         }
     }
 
@@ -233,6 +237,24 @@ impl Program {
     }
 }
 
+/// How many cells the parameters of a kind have.
+#[tactic(auto, using(crate::proofs::Shapes::kinds))]
+fn parameter_cells(program: &Program, number: u32, kind: &Kind) -> u32
+    requires typed { is_typed_program program.now ≡ true }
+    requires kind { slice_get program.now.kinds number ≡ Some kind.now }
+    ensures cells { result ≡ parameter_cells program.now kind.now }
+{
+    let _ = number;
+    match cells_within(
+        program.structures.as_slice(),
+        parameters(kind),
+        MOST_PARAMETER_CELLS,
+    ) {
+        Some(cells) => cells,
+        None => unreachable!(),
+    }
+}
+
 /// What a transaction takes and gives.
 #[tactic(auto, using(crate::proofs::Shapes::shaping))]
 fn shape_of(program: &Program, transaction: &Transaction) -> Shape
@@ -243,7 +265,11 @@ fn shape_of(program: &Program, transaction: &Transaction) -> Shape
 {
     let structures = program.structures.as_slice();
     let value = cells_in(structures, transaction.value) as u32;
-    match cells_within(structures, transaction.parameters.as_slice(), MOST_PARAMETER_CELLS) {
+    match cells_within(
+        structures,
+        transaction.parameters.as_slice(),
+        MOST_PARAMETER_CELLS,
+    ) {
         Some(args) => Shape {
             is_async: transaction.is_async,
             args,
@@ -271,8 +297,16 @@ fn fit_site(program: &Program, site: &Site, env: &Cells, args: &Cells) -> Option
     ensures rank { result ≡ site_rank program.now (Some site.now) env.now args.now }
 {
     let structures = program.structures.as_slice();
-    match cells_within(structures, parameters_of(program, site), MOST_PARAMETER_CELLS) {
-        Some(cells) => if args.len() == cells as usize && env.len() == 0 { Some(0) } else { None },
+    match cells_within(
+        structures,
+        parameters_of(program, site),
+        MOST_PARAMETER_CELLS,
+    ) {
+        Some(cells) => if args.len() == cells as usize && env.len() == 0 {
+            Some(0)
+        } else {
+            None
+        },
         None => unreachable!(),
     }
 }

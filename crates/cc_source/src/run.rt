@@ -1,8 +1,7 @@
 ghost use Rattle.std.specs.Prelude.{◌≡◌};
-ghost use Rattle.cc_base.specs.declared.request.Request.TheVariants as request;
 ghost use Rattle.cc_source.specs.declared.run.Unfinished.TheVariants as unfinished;
 
-use cc_base::{FaultKind, Grant, Memory, Request};
+use cc_base::{Grant, Memory, Request};
 use sqlite_items::Items;
 use std::alloc::AllocError;
 
@@ -28,14 +27,6 @@ impl From<Memory> for Unfinished {
 
     fn from(_error: Memory) -> Unfinished {
         Unfinished::Memory
-    }
-}
-
-impl From<FaultKind> for Unfinished {
-    ghost from_gives = { λ kind e. e ≡ unfinished.Asked (request.Fault kind) };
-
-    fn from(kind: FaultKind) -> Unfinished {
-        Unfinished::Asked(Request::Fault { kind })
     }
 }
 

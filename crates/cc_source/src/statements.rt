@@ -24,11 +24,7 @@ impl Evaluator<'_> {
     /// What a statement does.
     #[cycle(statements)]
     #[tactic(auto, using(crate::proofs::Executions::executing, crate::proofs::Weights::weighs, crate::proofs::Means::does, crate::proofs::Straight::straight_statements, cc_typed::proofs::TypedStatements::typed_statements))]
-    pub(crate) fn statement(
-        &self,
-        run: &mut Run<'_>,
-        s: &Statement,
-    ) -> Result<Ending, Unfinished>
+    pub(crate) fn statement(&self, run: &mut Run<'_>, s: &Statement) -> Result<Ending, Unfinished>
         requires program { is_typed_program self.now.program.now ≡ true }
         requires body { body_variables self.now.program.now self.now.kind ≡ self.now.variables.now }
         requires stands { Stands self.now run.old }
@@ -259,12 +255,7 @@ impl Evaluator<'_> {
     }
 
     /// Sets the parameters of an accept to the arguments of the call that was taken.
-    fn take_arguments(
-        &self,
-        run: &mut Run<'_>,
-        site: u32,
-        grant: &Grant,
-    ) -> Result<(), Unfinished>
+    fn take_arguments(&self, run: &mut Run<'_>, site: u32, grant: &Grant) -> Result<(), Unfinished>
         requires table { is_table (structures_of self.now) ≡ true }
         requires stands { Stands self.now run.old }
         requires types { have_types_from (parameters_at (transaction_of self.now.program.now site)) self.now.variables.now (first_at (slice_get self.now.program.now.sites site)) ≡ true }
@@ -273,7 +264,12 @@ impl Evaluator<'_> {
         ensures stands { IfOk result (λ _. Stands self.now run.new) }
     {
         let args = arguments_taken(self.alloc, grant)?;
-        self.set_from(run, self.first(site), self.parameters(site), args.as_slice())
+        self.set_from(
+            run,
+            self.first(site),
+            self.parameters(site),
+            args.as_slice(),
+        )
     }
 
     /// Sets the variables of these types, from this number on, to the values that have these cells in order.

@@ -24,7 +24,7 @@ decreases-create l = 1 + weights l.args.now
 abbrev pub invariant-along-loop-step : goal.invariant-along-loop-step
 invariant-along-loop-step l =
     (value_after l.self.program.now (caller l.self) l.data_type (value l.self l.data_type l.cells) (drop l.step-index l.steps) (scope l.self l.run) (left l.run)
-      ≡ value_after l.self.program.now (caller l.self) l.fn.from (value l.self l.fn.from l.fn.whole) l.steps (scope l.self l.fn.run) (left l.fn.run))
+    ≡ value_after l.self.program.now (caller l.self) l.fn.from (value l.self l.fn.from l.fn.whole) l.steps (scope l.self l.fn.run) (left l.fn.run))
     × (length l.cells ≡ size l.self l.data_type)
     × (steps_typed (around l.self) l.data_type (drop l.step-index l.steps) l.fn.to ≡ true)
     × Stands l.self l.run
@@ -32,5 +32,5 @@ invariant-along-loop-step l =
 abbrev pub invariant-arguments-loop-arg : goal.invariant-arguments-loop-arg
 invariant-arguments-loop-arg l =
     (and_then (cells_given l.self.program.now (caller l.self) (drop l.arg-index l.args) (scope l.self l.run) (left l.run)) (λ cs sc left. Through (l.all ++ cs) sc left)
-      ≡ cells_given l.self.program.now (caller l.self) l.args (scope l.self l.fn.run) (left l.fn.run))
+    ≡ cells_given l.self.program.now (caller l.self) l.args (scope l.self l.fn.run) (left l.fn.run))
     × Stands l.self l.run

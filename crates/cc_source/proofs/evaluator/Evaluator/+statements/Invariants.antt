@@ -16,5 +16,5 @@ decreases-accept l = 1 + statement_weights l.part.now.block
 abbrev pub invariant-statements-loop-s : goal.invariant-statements-loop-s
 invariant-statements-loop-s l =
     (exec_all l.self.program.now (caller l.self) (drop l.s-index l.all) (scope l.self l.run) (left l.run)
-      ≡ exec_all l.self.program.now (caller l.self) l.all (scope l.self l.fn.run) (left l.fn.run))
+    ≡ exec_all l.self.program.now (caller l.self) l.all (scope l.self l.fn.run) (left l.fn.run))
     × Stands l.self l.run
