@@ -1,5 +1,5 @@
 -- How a run ends of the program of a text of `putchar` statements.
-use Rattle.std.proofs.Common.{◌≡◌, ℕ, ◌+◌, ◌≤◌, ◌<◌, ◌⊎◌, inl, inr, Bool, true, false, List, [], length, Option, refl, sym, ap, ◌∙◌, subst, arith}
+use Rattle.std.proofs.Common.{◌≡◌, ℕ, ◌+◌, ◌≤◌, ◌<◌, ◌⊎◌, inl, inr, false, List, [], length, Option, refl, ap, ◌∙◌, subst, arith}
 use Rattle.std.proofs.lemmas.Bool.Decides.{nat_tests}
 use Rattle.std.specs.List.{AllPass}
 use Rattle.std.specs.Result.{IfErr, IsErrOf, OnOk}
@@ -24,19 +24,18 @@ use Rattle.cc_pool.specs.declared.driven.Stop.TheVariants.{Over}
 use Rattle.cc_pool.specs.declared.driven.Stop.TheVariants as stop
 use Rattle.cc_source.specs.Early.{early_meaning}
 use Rattle.cc_source.specs.Lawful.{early-is, early-means, early_form}
-use Rattle.cc_command.proofs.Shapes.{Printed, Prints, Steps, run-steps}
+use Rattle.cc_command.proofs.Shapes.{Steps, run-steps}
 use Rattle.cc_command.specs.Printing.{printing}
 use Rattle.cc_command.specs.Program.{means, program_of}
 use Rattle.cc_rules.specs.Standing.{IsOver, standing_in}
 use Rattle.cc_rules.proofs.AlikeRuns.{SameRun-alike}
 use Rattle.cc_rules.specs.Ends.{has_faulted, is_complete}
 use Rattle.cc_rules.specs.Runs.{IsRun, state_after, turns}
-use Rattle.cc_rules.specs.State.{State}
 use Rattle.cc_rules.specs.Stops.{EndsWell}
 use Rattle.cc_rules.specs.declared.event.Event.{Event}
 use Rattle.cc_rules.specs.declared.event.Standing.{Standing}
 use Rattle.cc_rules.specs.declared.event.Standing.TheVariants.{Going, Spent}
-use Rattle.cc_rules.specs.declared.process.ProcessStanding.TheVariants.{Running, Ended}
+use Rattle.cc_rules.specs.declared.process.ProcessStanding.TheVariants.{Running}
 use Rattle.cc_source.specs.Programs.{meaning}
 
 other-number : (k n : ℕ) → k < n → nat_eq k n ≡ false

@@ -1,11 +1,7 @@
 -- A program that prints bytes, as it runs.
-use Rattle.std.proofs.Common.{◌≡◌, ℕ, zero, suc, ◌+◌, ◌-◌, ◌<◌, ◌≤◌, true, false, ◌&&◌, not, List, [], ◌∷◌, ◌++◌, length, take, get_or, Option, None, refl, sym, ap, ◌∙◌, subst, arith, length-append, append-nil, take_all, take-take, ap₂, add-one}
+use Rattle.std.proofs.Common.{◌≡◌, ℕ, zero, suc, ◌+◌, ◌-◌, ◌<◌, true, false, ◌&&◌, not, List, [], ◌∷◌, ◌++◌, length, take, get_or, None, refl, sym, ap, ◌∙◌, subst, arith, length-append, append-nil, ap₂, add-one}
 use Rattle.std.specs.Prelude.{slice_get}
 use Rattle.std.proofs.Math.Seq.{take-suc}
-use Rattle.std.proofs.lemmas.List.{length-take-le}
-use Rattle.std.proofs.lemmas.List.Elements.{All-nil, All-push}
-use Rattle.std.specs.List.{AllPass}
-use Rattle.cc_rules.specs.declared.event.Word.{Word}
 use Rattle.std.proofs.lemmas.Option.{slice_get-get_or, slice_get_past}
 use Rattle.cc_rules.proofs.GoOn.{after-append, IsRunFrom-append, IsSettledFrom-append, printed-append}
 use Rattle.cc_rules.specs.Effects.{effect}
@@ -16,8 +12,8 @@ use Rattle.cc_base.specs.declared.request.Grant.TheVariants.{Go}
 use Rattle.cc_base.specs.declared.request.Request.TheVariants.{Print, Done}
 use Rattle.cc_base.specs.Alternatives.{numbered}
 use Rattle.cc_rules.specs.Choice.{expires_at, has_eligible, is_immediate}
-use Rattle.cc_rules.specs.Ends.{is_complete, has_faulted, is_due}
-use Rattle.cc_rules.specs.Events.{is_legal, next, request_at, same_word, word_of}
+use Rattle.cc_rules.specs.Ends.{is_due}
+use Rattle.cc_rules.specs.Events.{is_legal, next, same_word, word_of}
 use Rattle.cc_rules.specs.Runs.{IsRunFrom, IsSettled, IsSettledFrom, after, printed_from, event_bytes, bytes_of}
 use Rattle.cc_rules.specs.State.{Process, State, first_state, nobody, open_alternatives, process_at}
 use Rattle.cc_rules.specs.declared.event.Event.{Event}
@@ -26,9 +22,6 @@ use Rattle.cc_rules.specs.declared.event.Word.TheVariants as word
 use Rattle.cc_rules.specs.declared.process.ProcessStanding.{ProcessStanding}
 use Rattle.cc_rules.specs.declared.process.ProcessStanding.TheVariants.{Running, Ended}
 use Rattle.cc_command.specs.Printing.{printing, request_after, main, asked}
-use Rattle.cc_command.specs.Outcomes.{RunsToItsEnd, StopsAtTheSink, StopsForMemory}
-use Rattle.cc_world.specs.Told.{with_bytes, GrewBy, GrewWithin}
-use Rattle.cc_world.proofs.Grown.{grown_twice, not_grown}
 
 -- `main`, standing so, after these grants
 abbrev pub main_at : List Grant → ProcessStanding → Process

@@ -1,14 +1,12 @@
 -- Each run of a program that prints bytes, by its last state.
-use Rattle.std.proofs.Common.{◌≡◌, ℕ, zero, suc, ◌+◌, ◌≤◌, ◌<◌, ◌⊎◌, inl, inr, Bool, true, false, ◌&&◌, cond, List, [], ◌∷◌, ◌++◌, length, get_or, refl, sym, ap, ◌∙◌, subst, arith, length-append}
+use Rattle.std.proofs.Common.{◌≡◌, ℕ, zero, suc, ◌+◌, ◌≤◌, ◌⊎◌, inl, inr, Bool, true, false, ◌&&◌, cond, List, [], ◌∷◌, ◌++◌, length, refl, sym, ap, ◌∙◌, subst, arith, length-append}
 use Rattle.std.proofs.Math.Nat.{eq-or-lt_of_le}
 use Rattle.std.specs.List.{AllPass}
 use Rattle.std.proofs.lemmas.List.Elements.{All-head, All-tail}
 use Rattle.std.proofs.lemmas.List.Sums.{sum_by-cons}
 use Rattle.cc_base.specs.declared.request.Grant.{Grant}
 use Rattle.cc_base.specs.declared.request.Grant.TheVariants.{Go}
-use Rattle.cc_base.specs.declared.request.Request.{Request}
-use Rattle.cc_base.specs.declared.request.Request.TheVariants.{Print, Done}
-use Rattle.cc_command.proofs.Prints.{alone, asks_done, asks_print, main_at, of_each, settled_ended, settled_running}
+use Rattle.cc_command.proofs.Prints.{alone, asks_done, asks_print, main_at, settled_ended, settled_running}
 use Rattle.cc_command.specs.Printing.{main, printing, request_after}
 use Rattle.cc_pool.specs.Driven.{is_untimed}
 use Rattle.cc_rules.specs.Effects.{effect}
@@ -17,7 +15,6 @@ use Rattle.cc_rules.specs.Runs.{IsRun, IsRunFrom, after, is_turn, state_after, t
 use Rattle.cc_rules.specs.State.{State, first_state, is_running, process_at}
 use Rattle.cc_rules.specs.declared.event.Event.{Event}
 use Rattle.cc_rules.specs.declared.event.Event.TheVariants.{Ask, Accept, Instant, Expire, Withdraw, Time, End}
-use Rattle.cc_rules.specs.declared.event.Word.{Word}
 use Rattle.cc_rules.specs.declared.process.ProcessStanding.TheVariants.{Running, Ended}
 
 -- `main` is running, and asked k times

@@ -1,5 +1,5 @@
 -- The program of a text of `putchar` statements is typed and straight.
-use Rattle.std.proofs.Common.{◌≡◌, ℕ, ◌≤◌, ◌<◌, pos, Bool, true, false, ◌&&◌, ◌||◌, List, [], ◌∷◌, map, refl, sym, ap, ◌∙◌, arith}
+use Rattle.std.proofs.Common.{◌≡◌, ℕ, ◌≤◌, pos, true, ◌&&◌, List, [], ◌∷◌, map, refl, ap, ◌∙◌, arith}
 use Rattle.std.proofs.lemmas.Bool.Decides.{nat_tests}
 use Rattle.std.specs.List.{list_all}
 use Rattle.std.specs.Prelude.{All}
@@ -10,7 +10,6 @@ use Rattle.cc_source.specs.Straight.{is_straight, is_straight_program, is_straig
 use Rattle.cc_typed.specs.Typed.{Surroundings, is_typed, is_typed_program, is_typed_statement}
 use Rattle.cc_typed.specs.Types.{type_of}
 use Rattle.cc_typed.specs.declared.tree.ChainStep.TheBlock as E
-use Rattle.cc_typed.specs.declared.tree.Statement.{Statement}
 use denote.Hole.Carrier.{hidden}
 
 fits-byte : (byte : ℕ) → byte ≤ 255 → fits 31 (pos byte) ≡ true

@@ -1,5 +1,5 @@
 -- The program of a text of `putchar` statements.
-use Rattle.std.specs.Prelude.{◌≡◌, ℕ, pos, List, [], ◌∷◌, map, None}
+use Rattle.std.specs.Prelude.{◌≡◌, ℕ, pos, List, [], ◌∷◌, map}
 use Rattle.cc_base.specs.Meaning.{Meaning}
 use Rattle.cc_command.specs.Form.{IsProgram}
 use Rattle.cc_typed.specs.Parts.{Parts}

@@ -1,5 +1,5 @@
 use Rattle.std.proofs.Common.{ap, ◌∙◌}
-use Rattle.cc_typed.specs.declared.tree.Expression.{Constant, PutChar}
+use Rattle.cc_typed.specs.declared.tree.Expression.{PutChar}
 use Rattle.cc_typed.specs.declared.tree.Statement.{Evaluate}
 use Rattle.cc_command.proofs.program.put_statement.Goals as goal
 

@@ -1,4 +1,4 @@
-use Rattle.std.proofs.Common.{◌≡◌, ◌∙◌, ap, ℕ, List, [], false}
+use Rattle.std.proofs.Common.{◌∙◌, ap}
 use Rattle.cc_command.proofs.Finishes.{finishes, is-memory, is-write, on-over, same-meaning, stops, wants}
 use Rattle.cc_source.specs.Early.{early_meaning}
 use Rattle.cc_source.specs.Lawful.{early_supported}
