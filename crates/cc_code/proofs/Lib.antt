@@ -1,1 +1,10 @@
+pub mod Firsts
+pub mod Holds
+pub mod Judging
+pub mod Lists
+pub mod Marked
+pub mod Meets
+pub mod Naming
+pub mod Noting
+pub mod Paths
 pub mod Total

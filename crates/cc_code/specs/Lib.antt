@@ -1,6 +1,10 @@
+pub mod Checked
 pub mod Control
+pub mod Judged
+pub mod Listing
 pub mod Meaning
 pub mod Operands
+pub mod Reach
 pub mod Rules
 pub mod Steps
 pub mod Worked
