@@ -1,9 +1,9 @@
 -- The first rule that is broken, of the code and of its instructions.
-use Rattle.std.proofs.Common.{◌≡◌, ℕ, ◌+◌, ◌<◌, ◌≤◌, ◌⊎◌, inl, inr, List, [], ◌∷◌, length, slice_get, Option, Some, None, refl, sym, ◌∙◌, subst, arith}
+use Rattle.std.proofs.Common.{◌≡◌, ℕ, ◌+◌, ◌<◌, ◌≤◌, inl, inr, List, [], length, slice_get, Option, Some, None, refl, sym, ◌∙◌, subst, arith}
 use native.Mathlib.Decide.{ℕ_discrete}
 use Rattle.std.proofs.lemmas.Option.{slice_get_within}
 use Rattle.cc_code.specs.Judged.{IsEarlier, IsLeast, Judged, KeepsStart}
-use Rattle.cc_code.specs.Rules.{IsFirst, IsVerified, Keeps, KeepsAt, KeepsWhole, number}
+use Rattle.cc_code.specs.Rules.{IsFirst, IsVerified, Keeps, KeepsAt, KeepsWhole}
 use Rattle.cc_code.specs.declared.code.RawCode.{RawCode}
 use Rattle.cc_code.specs.declared.instr.Instr.{Instr}
 use Rattle.cc_code.specs.declared.rule.Rule.{Rule}

@@ -1,3 +1,4 @@
+pub mod Ascending
 pub mod Firsts
 pub mod Holds
 pub mod Judging
@@ -8,3 +9,4 @@ pub mod Naming
 pub mod Noting
 pub mod Paths
 pub mod Total
+pub mod Waiting

@@ -1,9 +1,9 @@
 -- How places are visited, and that all that is reached has a label in the end.
-use Rattle.std.proofs.Common.{◌≡◌, ℕ, ◌+◌, ◌*◌, ◌<◌, ◌≤◌, ◌≢◌, ◌⊎◌, inl, inr, List, [], ◌∷◌, ◌++◌, length, get_or, set, slice_get, map, Option, Some, None, Bool, true, false, refl, sym, ◌∙◌, ap, subst, arith, take, Contains, unwrap_or}
+use Rattle.std.proofs.Common.{◌≡◌, ℕ, ◌<◌, ◌⊎◌, inl, inr, List, [], ◌∷◌, ◌++◌, length, get_or, set, slice_get, Option, Some, None, refl, sym, ◌∙◌, ap, subst, arith, Contains, unwrap_or}
 use Rattle.std.proofs.lemmas.List.{get_or-set_same, get_or-set_other}
 use Rattle.std.proofs.lemmas.List.Elements.{Contains-append_left, Contains-append_right, Contains-push, Contains-push_cases, Contains-append_cases}
 use native.Mathlib.Decide.{ℕ_discrete}
-use Rattle.std.proofs.lemmas.Option.{slice_get_within, slice_get_cases, unwrap_or-slice_get}
+use Rattle.std.proofs.lemmas.Option.{slice_get_cases, unwrap_or-slice_get}
 use Rattle.std.proofs.Math.ListN.{length-set}
 use Rattle.cc_code.specs.Control.{Reaches, start, onward}
 use Rattle.cc_code.specs.Reach.{From, Grown, HasLabel, IsMarked, Leads, Marking, begin, labelled}

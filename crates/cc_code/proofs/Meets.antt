@@ -1,7 +1,7 @@
 -- Where starts with different labels come together.
-use Rattle.std.proofs.Common.{◌≡◌, ℕ, ◌<◌, ◌≢◌, ◌⊎◌, inl, inr, List, [], ◌∷◌, ◌++◌, length, Option, Some, refl, sym, ◌∙◌, ap, subst, arith, Contains}
-use Rattle.cc_code.proofs.Marked.{complete, itself, nothing, only}
-use Rattle.cc_code.specs.Control.{Reaches, start, onward}
+use Rattle.std.proofs.Common.{◌≡◌, ℕ, ◌<◌, ◌≢◌, ◌⊎◌, inl, inr, List, [], length, Option, sym, ◌∙◌, subst, Contains}
+use Rattle.cc_code.proofs.Marked.{nothing, only}
+use Rattle.cc_code.specs.Control.{Reaches, onward}
 use Rattle.cc_code.specs.Reach.{From, HasLabel, IsMarked, Leads, Marking}
 use Rattle.cc_code.specs.declared.reach.Start.{Start}
 

@@ -1,16 +1,16 @@
 -- What verification computes once, and how it stands to the code.
 use Rattle.std.specs.List.{AllByRecursion}
-use Rattle.std.specs.Prelude.{◌≡◌, ◌≢◌, ℕ, zero, suc, ◌+◌, ◌<◌, ◌↔◌, ◌⊎◌, Bool, true, false, List, [], ◌∷◌, ◌++◌, length, get_or, map, slice_get, Option, Some, None, Contains}
+use Rattle.std.specs.Prelude.{◌≡◌, ◌≢◌, ℕ, zero, suc, ◌<◌, ◌↔◌, ◌⊎◌, Bool, true, false, List, [], ◌++◌, length, get_or, map, slice_get, Option, Some, None, Contains}
 use Rattle.cc_base.specs.Formats.{conversions, conversions_after_percent, conversions_after_percent_l}
-use Rattle.cc_code.specs.Control.{InFragment, InFunction, InKind, InPart, addresses, entries, fragments}
+use Rattle.cc_code.specs.Control.{InFragment, InFunction, InKind, InPart, addresses, fragments}
 use Rattle.cc_code.specs.Operands.{format_at}
 use Rattle.cc_code.specs.Reach.{HasLabel, IsMarked, begin, labelled, place_of, ways}
 use Rattle.cc_code.specs.Rules.{AreAddresses, HasEntries, HasHeight, IsAddress, NamesFunction, NamesKind, NamesSite, UnnamedEntries, all_entries}
+use Rattle.cc_code.specs.Waiting.{AreSelects}
 use Rattle.cc_code.specs.Works.{table_at}
 use Rattle.cc_code.specs.declared.code.Part.{Part}
 use Rattle.cc_code.specs.declared.code.RawCode.{RawCode}
 use Rattle.cc_code.specs.declared.code.Site.{Site}
-use Rattle.cc_code.specs.declared.code.TableEntry.{TableEntry}
 use Rattle.cc_code.specs.declared.facts.Facts.{Facts}
 use Rattle.cc_code.specs.declared.formats.Reading.{Reading}
 use Rattle.cc_code.specs.declared.formats.Reading.TheVariants as reading
@@ -129,4 +129,5 @@ pub record AreFacts (k : RawCode) (f : Facts) : Type 0 where
   pub functions : AreValues k f.functions
   pub kinds : AreMarks k (InKind k) f.kinds.items
   pub fragments : AreMarks k (InFragment k) f.fragments.items
+  pub selects : AreSelects k f.selects
   pub unnamed : (f.unnamed_lead ≡ true) ↔ UnnamedEntries k

@@ -7,5 +7,6 @@ pub mod Operands
 pub mod Reach
 pub mod Rules
 pub mod Steps
+pub mod Waiting
 pub mod Worked
 pub mod Works

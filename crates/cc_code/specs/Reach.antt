@@ -1,6 +1,6 @@
 -- What is reached in code from given places: its tables and after them its instructions.
 use Rattle.std.specs.Option.{is_some}
-use Rattle.std.specs.Prelude.{◌≡◌, ℕ, ◌+◌, ◌-◌, ◌*◌, ◌^◌, ◌<◌, ◌⊎◌, List, [], ◌∷◌, length, map, get_or, slice_get, Option, Some, None, cond, nat_lt, Contains, sum_by}
+use Rattle.std.specs.Prelude.{◌≡◌, ℕ, ◌+◌, ◌-◌, ◌*◌, ◌<◌, ◌⊎◌, List, [], ◌∷◌, length, map, get_or, slice_get, Option, Some, None, cond, nat_lt, Contains, sum_by}
 use Rattle.cc_code.specs.Control.{Reaches, addresses, successors}
 use Rattle.cc_code.specs.declared.code.RawCode.{RawCode}
 use Rattle.cc_code.specs.declared.code.TableEntry.{TableEntry}

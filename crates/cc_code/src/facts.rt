@@ -12,6 +12,7 @@ use crate::parts::{Starts, Values, entries, in_fragments, in_kinds};
 use crate::reach::{label_at, place_of};
 use crate::tables::{leading, level};
 use crate::unnamed::unnamed_lead;
+use crate::waits::Selects;
 use std::alloc::{AllocError, Global};
 
 /// What verification looks up.
@@ -30,6 +31,7 @@ pub(crate) struct Facts {
     pub kinds: Vec<Option<u32>>,
     /// What fragments hold, by places.
     pub fragments: Vec<Option<u32>>,
+    pub selects: Selects,
     /// Whether the entries that no instruction names are instructions.
     pub unnamed_lead: bool,
 }
@@ -49,6 +51,7 @@ impl Facts {
             functions: Values::new(alloc, raw, &starts)?,
             kinds: in_kinds(alloc, raw, &starts)?,
             fragments: in_fragments(alloc, raw, &starts)?,
+            selects: Selects::new(alloc, raw)?,
             unnamed_lead: unnamed_lead(alloc, raw)?,
         })
     }

@@ -20,6 +20,7 @@ mod rules;
 mod tables;
 mod unnamed;
 mod verified;
+mod waits;
 mod worked;
 
 pub use code::{EnvironmentPart, Part, RawCode, Site, TableEntry};

@@ -1,6 +1,6 @@
 //! Each rule of verification, of an instruction at an address.
 
-ghost use Rattle.std.specs.Prelude.{◌≡◌, ◌↔◌, ◌<◌, IsTrue, length};
+ghost use Rattle.std.specs.Prelude.{◌≡◌, ◌↔◌, ◌<◌, IsTrue, Some, length, slice_get};
 ghost use Rattle.cc_code.specs.Checked.{AreLeading, AreLevel};
 ghost use Rattle.cc_code.specs.Control.{InFunction, InKind, optional};
 ghost use Rattle.cc_code.specs.Rules.{AreAddresses, GivesHeights, HasEntries, HasHeight, HasOwnHeight, HasShape, HasTargets, IsAddress, IsFinal, IsOnlyInKinds, IsPlaced, IsPure, NamesWhatIsThere, height_at, rest_at};
@@ -9,6 +9,14 @@ ghost use Rattle.cc_code.specs.Reach.{IsSmall};
 use crate::code::{RawCode, Site};
 use crate::instr::Instr;
 use crate::operands::{gives, shape_at};
+
+/// The instruction at an address.
+pub(crate) fn instr_at(raw: &RawCode, at: usize) -> Instr
+    requires { at < length raw.now.instrs }
+    ensures { slice_get raw.now.instrs at ≡ Some result }
+{
+    raw.instrs.as_slice()[at]
+}
 
 /// Whether an instruction stands at the address.
 pub(crate) fn is_address(raw: &RawCode, address: u16) -> bool

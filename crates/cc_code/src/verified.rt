@@ -14,7 +14,8 @@ use crate::offers::offers_agree;
 use crate::operands::{gives, takes};
 use crate::rule::{Rule, VerifyError};
 use crate::rules::{
-    gives_heights, has_targets, height_at, is_final, is_placed, is_pure, names_what_is_there,
+    gives_heights, has_targets, height_at, instr_at, is_final, is_placed, is_pure,
+    names_what_is_there,
 };
 use cc_base::limits::{MOST_INSTRUCTIONS, MOST_PURE_DEPTH};
 use std::alloc::{AllocError, Global};
@@ -85,14 +86,6 @@ fn first_broken(alloc: Global, raw: &RawCode) -> Result<Option<(usize, Rule)>, A
         }
     }
     Ok(None)
-}
-
-/// The instruction at an address.
-fn instr_at(raw: &RawCode, at: usize) -> Instr
-    requires { at < length raw.now.instrs }
-    ensures { slice_get raw.now.instrs at ≡ Some result }
-{
-    raw.instrs.as_slice()[at]
 }
 
 /// The first rule that is broken at address 0, where what the code as a whole breaks counts too.
@@ -190,7 +183,7 @@ fn broken_at(
     requires facts { AreFacts raw.now facts.now }
     ensures { IfOk result (λ o. Judged (KeepsAt raw.now at instr) o) }
 {
-    let agree = offers_agree(alloc, raw, at, instr)?;
+    let agree = offers_agree(alloc, raw, &facts.selects, at, instr)?;
     Ok(broken_rule(raw, facts, agree, at, instr))
 }
 

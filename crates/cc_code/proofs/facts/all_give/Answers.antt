@@ -1,7 +1,7 @@
-use Rattle.std.proofs.Common.{◌≡◌, ℕ, Option, Some, None, get_or, refl, sym, ◌∙◌, subst, true, false, Bool, nat_eq, rules, arith}
+use Rattle.std.proofs.Common.{◌≡◌, ℕ, Option, Some, None, get_or, refl, sym, ◌∙◌, subst, true, false, Bool, nat_eq, arith}
 use Rattle.std.proofs.lemmas.Bool.Decides.{nat_tests}
-use Rattle.cc_code.specs.Checked.{AllGive, GivesOnly}
-use Rattle.cc_code.specs.Reach.{IsMarked, place_of}
+use Rattle.cc_code.specs.Checked.{GivesOnly}
+use Rattle.cc_code.specs.Reach.{place_of}
 use Rattle.cc_code.proofs.facts.all_give.Goals as goal
 
 equal : (a b : ℕ) → nat_eq a b ≡ true → a ≡ b

@@ -1,4 +1,4 @@
-use Rattle.std.proofs.Common.{◌≡◌, ◌+◌, ℕ, List, [], drop, length, refl, sym, subst, arith}
+use Rattle.std.proofs.Common.{◌≡◌, ℕ, List, [], drop, refl, sym, subst, arith}
 use Rattle.std.proofs.lemmas.Grind.{common_steps}
 use Rattle.cc_base.specs.Formats.{conversions, conversions_after_percent, conversions_after_percent_l}
 use Rattle.cc_code.specs.Checked.{conversions_from}

@@ -1,4 +1,4 @@
-use Rattle.std.proofs.Common.{◌≡◌, List, [], refl, subst, Option}
+use Rattle.std.proofs.Common.{◌≡◌, List, [], refl, subst}
 use Rattle.cc_code.proofs.Lists.{absent}
 use Rattle.cc_code.specs.Rules.{AgreesIn}
 use Rattle.cc_code.specs.Works.{entry_of, table_at}

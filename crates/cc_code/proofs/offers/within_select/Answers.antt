@@ -1,10 +1,9 @@
-use Rattle.std.proofs.Common.{◌≡◌, ℕ, ◌+◌, ◌<◌, List, [], ◌∷◌, length, Option, Contains, sym, subst, ap, arith}
-use Rattle.std.specs.Prelude.{◌↔◌}
+use Rattle.std.proofs.Common.{◌≡◌, ℕ, ◌+◌, ◌<◌, List, [], ◌∷◌, length, Option, Contains, sym, subst, arith}
 use Rattle.cc_code.proofs.Marked.{complete, itself, only}
 use Rattle.cc_code.proofs.Paths.{places-within, within, within-places}
 use Rattle.cc_code.specs.Checked.{AreMarks}
 use Rattle.cc_code.specs.Control.{Reaches, GoesWithin}
-use Rattle.cc_code.specs.Reach.{From, IsMarked, Leads, Marking, begin, place_of, ways}
+use Rattle.cc_code.specs.Reach.{From, Marking, begin, place_of, ways}
 use Rattle.cc_code.specs.declared.code.RawCode.{RawCode}
 use Rattle.cc_code.specs.declared.reach.Extent.TheVariants.{Select}
 use Rattle.cc_code.specs.declared.reach.Start.{Start}

@@ -1,4 +1,4 @@
-use Rattle.std.proofs.Common.{◌≡◌, List, [], ◌∷◌, get_or, sym, subst, take}
+use Rattle.std.proofs.Common.{List, [], ◌∷◌, get_or, sym, subst, take}
 use Rattle.std.proofs.lemmas.List.{take_more}
 use Rattle.cc_code.proofs.Noting.{Seeded-after, Seeded-none}
 use Rattle.cc_code.specs.Checked.{Seeded}

@@ -1,4 +1,4 @@
-use Rattle.std.proofs.Common.{◌≡◌, ℕ, suc, ◌+◌, List, ◌++◌, get_or, None, Option, sym, subst, add-one}
+use Rattle.std.proofs.Common.{ℕ, get_or, None, Option, sym, subst, add-one}
 use Rattle.cc_code.proofs.Noting.{Seeded-after, Seeded-none}
 use Rattle.cc_code.specs.Checked.{Seeded, steps, steps_of}
 use Rattle.cc_code.proofs.parts.seed_steps.Goals as goal

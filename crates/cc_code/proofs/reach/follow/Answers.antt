@@ -1,6 +1,6 @@
-use Rattle.std.proofs.Common.{◌≡◌, ℕ, List, [], ◌∷◌, ◌++◌, length, sym, ◌∙◌, subst, ap}
+use Rattle.std.proofs.Common.{ℕ, List, [], ◌∷◌, ◌++◌, ◌∙◌, subst}
 use Rattle.cc_code.proofs.Marked.{followed}
-use Rattle.cc_code.specs.Reach.{Grown, Marking, labelled, way_list, ways}
+use Rattle.cc_code.specs.Reach.{Grown, Marking, labelled, ways}
 use Rattle.cc_code.specs.declared.reach.Start.{Start}
 use Rattle.cc_code.proofs.reach.follow.Goals as goal
 

@@ -1,5 +1,5 @@
-use Rattle.std.proofs.Common.{◌≡◌, ℕ, ◌-◌, List, [], length, slice_get, Option, Some, None, sym, ◌∙◌, ap}
-use Rattle.cc_code.specs.Reach.{instr_ways, table_ways, way_list, ways, ways_after, ways_from}
+use Rattle.std.proofs.Common.{◌≡◌, ℕ, ◌-◌, List, length, slice_get, Option, Some, None, ◌∙◌, ap}
+use Rattle.cc_code.specs.Reach.{table_ways, ways, ways_after, ways_from}
 use Rattle.cc_code.specs.declared.code.TableEntry.{TableEntry}
 use Rattle.cc_code.specs.declared.instr.Instr.{Instr}
 use Rattle.cc_code.proofs.reach.leads_to.Goals as goal

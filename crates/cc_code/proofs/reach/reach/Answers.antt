@@ -1,6 +1,6 @@
-use Rattle.std.proofs.Common.{rules, ◌≡◌, ℕ, ◌+◌, zero, suc, List, [], length, get_or, Option, Some, None, replicate, refl, sym, ◌∙◌, subst}
+use Rattle.std.proofs.Common.{rules, ◌≡◌, ℕ, zero, suc, List, get_or, Option, Some, None, replicate, refl, sym, ◌∙◌, subst}
 use Rattle.cc_code.proofs.Marked.{begun}
-use Rattle.cc_code.specs.Reach.{Grown, HasLabel, Marking, ways}
+use Rattle.cc_code.specs.Reach.{Grown, HasLabel, ways}
 use Rattle.cc_code.specs.declared.reach.Start.{Start}
 use Rattle.cc_code.proofs.reach.reach.Goals as goal
 

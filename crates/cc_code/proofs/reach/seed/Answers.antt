@@ -1,4 +1,4 @@
-use Rattle.std.proofs.Common.{◌≡◌, ℕ, ◌+◌, ◌<◌, List, [], ◌∷◌, ◌++◌, length, get_or, sym, subst, take}
+use Rattle.std.proofs.Common.{List, [], ◌∷◌, get_or, sym, subst, take}
 use Rattle.std.proofs.lemmas.List.{take_more}
 use Rattle.cc_code.proofs.Marked.{Grown-after, Grown-none}
 use Rattle.cc_code.specs.Reach.{Grown, begin}

@@ -1,4 +1,4 @@
-use Rattle.std.proofs.Common.{◌≡◌, ℕ, ◌<◌, List, [], ◌∷◌, ◌++◌, length, get_or, set, Some, None, Option, inl, inr, sym, subst}
+use Rattle.std.proofs.Common.{◌≡◌, ◌<◌, List, [], ◌∷◌, length, get_or, set, Some, None, inl, inr, sym, subst}
 use Rattle.cc_code.proofs.Marked.{marked-or, visited-new, visited-old}
 use Rattle.cc_code.specs.Reach.{Grown}
 use Rattle.cc_code.specs.declared.reach.Start.{Start}

@@ -1,8 +1,8 @@
-use Rattle.std.proofs.Common.{◌≡◌, ℕ, ◌+◌, ◌<◌, ◌≤◌, List, [], ◌∷◌, ◌++◌, length, get_or, map, sym, ◌∙◌, ap, subst, take, None, arith}
+use Rattle.std.proofs.Common.{◌≡◌, ℕ, List, [], ◌∷◌, ◌++◌, get_or, sym, ◌∙◌, ap, subst, take, None, arith}
 use Rattle.std.proofs.lemmas.Grind.{common_steps}
 use Rattle.std.proofs.lemmas.List.{take_more}
-use Rattle.cc_code.proofs.Marked.{Grown-after, Grown-none}
-use Rattle.cc_code.specs.Reach.{Grown, begin, labelled, left, place_of, table_ways}
+use Rattle.cc_code.proofs.Marked.{Grown-after}
+use Rattle.cc_code.specs.Reach.{Grown, begin, labelled, place_of, table_ways}
 use Rattle.cc_code.specs.declared.code.RawCode.{RawCode}
 use Rattle.cc_code.specs.declared.code.TableEntry.{TableEntry}
 use Rattle.cc_code.specs.declared.reach.Start.{Start}

@@ -1,6 +1,5 @@
-use Rattle.std.proofs.Common.{rules, ◌≡◌, ℕ, zero, suc, ◌+◌, ◌<◌, List, [], ◌∷◌, ◌++◌, length, get_or, Bool, true, false, replicate, refl, sym, ◌∙◌, ap, subst, take, arith, pos}
+use Rattle.std.proofs.Common.{rules, ◌≡◌, ℕ, zero, suc, ◌<◌, List, length, get_or, Bool, true, false, replicate, refl, sym, ◌∙◌, ap, subst, take, pos}
 use Rattle.std.specs.Prelude.{◌↔◌}
-use Rattle.std.proofs.lemmas.Grind.{common_steps}
 use Rattle.std.proofs.lemmas.List.{length-replicate, take_more}
 use Rattle.cc_code.proofs.Lists.{all-taken}
 use Rattle.cc_code.proofs.Naming.{named-step, none-named}

@@ -1,4 +1,3 @@
-use Rattle.std.proofs.Common.{sym}
 use Rattle.cc_code.proofs.Firsts.{at-start, no-start}
 use Rattle.cc_code.proofs.verified.broken_by_first.Goals as goal
 

@@ -1,5 +1,5 @@
-use Rattle.std.proofs.Common.{◌≡◌, ℕ, ◌<◌, ◌≤◌, Option, None, Some, refl, sym, subst, arith}
-use Rattle.cc_code.proofs.Firsts.{all-kept, first-start, first-there, more-kept}
+use Rattle.std.proofs.Common.{◌≡◌, ℕ, ◌<◌, Option, sym, subst, arith}
+use Rattle.cc_code.proofs.Firsts.{all-kept, first-there, more-kept}
 use Rattle.cc_code.specs.Judged.{IsLeast, Judged}
 use Rattle.cc_code.specs.Rules.{Keeps, KeepsAt}
 use Rattle.cc_code.specs.declared.rule.Rule.{Rule}

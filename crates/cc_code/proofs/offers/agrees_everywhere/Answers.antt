@@ -1,10 +1,10 @@
-use Rattle.std.proofs.Common.{◌≡◌, ℕ, ◌+◌, ◌<◌, ◌≤◌, ◌⊎◌, inl, inr, List, [], ◌∷◌, length, slice_get, Option, None, refl, sym, subst, arith, rules}
+use Rattle.std.proofs.Common.{ℕ, ◌+◌, inl, inr, List, [], ◌∷◌, slice_get, Option, refl, sym, subst, arith, rules}
 use native.Mathlib.Decide.{ℕ_discrete}
 use Rattle.std.proofs.lemmas.Option.{slice_get_cases}
-use Rattle.cc_code.specs.Control.{Reaches, ComesTo, GoesWithin}
+use Rattle.cc_code.specs.Control.{Reaches, GoesWithin}
 use Rattle.cc_code.specs.Rules.{AgreesThere}
 use Rattle.cc_code.specs.declared.instr.Instr.{Instr}
-use Rattle.cc_code.proofs.offers.agrees.Goals as goal
+use Rattle.cc_code.proofs.offers.agrees_everywhere.Goals as goal
 
 pub loop-wait-preserved : goal.loop-wait-preserved
 loop-wait-preserved c = λ w b comes. elim (ℕ_discrete w c.loop-wait.wait) [
