@@ -101,7 +101,8 @@ steps k m (suc n) = steps k m n ++ steps_of k n (get_or m n None)
 pub record AreValues (k : RawCode) (v : Values) : Type 0 where
   pub marks : AreMarks k (InFunction k) v.labels.items
   pub met : (at n : ℕ) → at < length k.instrs → IsMarked v.meetings.items (place_of k at) → AllGive k at n → ⊥
-  pub unmet : (at n : ℕ) → at < length k.instrs → (IsMarked v.meetings.items (place_of k at) → ⊥) → AllGive k at n ↔ GivesOnly (get_or v.labels.items (place_of k at) None) n
+  pub unmet : (at n : ℕ) → at < length k.instrs → (IsMarked v.meetings.items (place_of k at) → ⊥)
+      → AllGive k at n ↔ GivesOnly (get_or v.labels.items (place_of k at) None) n
 
 -- an instruction names the function, the kind or the site of this number
 abbrev pub Names : Thing → ℕ → Instr → Type 0

@@ -6,6 +6,7 @@ pub mod Meaning
 pub mod Operands
 pub mod Reach
 pub mod Rules
+pub mod Standing
 pub mod Steps
 pub mod Waiting
 pub mod Worked

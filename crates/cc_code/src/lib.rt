@@ -25,7 +25,7 @@ mod worked;
 
 pub use code::{EnvironmentPart, Part, RawCode, Site, TableEntry};
 pub use instr::Instr;
-pub use laws::code_goes_on;
+pub use laws::{code_goes_on, slices_end, verified_code_never_strays};
 pub use lines::listing;
 pub use rule::{Rule, VerifyError};
 pub use verified::{Code, verify};
