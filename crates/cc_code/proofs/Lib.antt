@@ -1,1 +1,14 @@
+pub mod Ascending
+pub mod Firsts
+pub mod Holds
+pub mod Judging
+pub mod Leading
+pub mod Lists
+pub mod Marked
+pub mod Meets
+pub mod Naming
+pub mod Noting
+pub mod Paths
+pub mod Standing
 pub mod Total
+pub mod Waiting

@@ -27,7 +27,7 @@ use Rattle.cc_code.specs.declared.code.TableEntry.{TableEntry}
 use Rattle.cc_code.specs.declared.instr.Instr.{Instr}
 use Rattle.cc_code.specs.declared.instr.Instr.TheVariants as instr
 
-less : (a b : ℕ) → nat_lt a b ≡ true → a < b
+pub less : (a b : ℕ) → nat_lt a b ≡ true → a < b
 less a b e = grind (arith, nat_tests)
 
 -- what is left stays, or weighs less
@@ -198,7 +198,7 @@ module _ (n : ℕ) (s : Store) (l : Left) where
   asked-none : (p : Eval Store (Unit {0})) → Lower true l (p s l) → Lower true l (on_after n p s l)
   asked-none p h = lowers-then l (p s l) _ h (λ v s m. refl)
 
-works-lower : (k : RawCode) (n : ℕ) (i : Instr) (vs : List ℤ) (s : Store) (l : Left) → Lower (renews i) l (works k n i vs s l)
+pub works-lower : (k : RawCode) (n : ℕ) (i : Instr) (vs : List ℤ) (s : Store) (l : Left) → Lower (renews i) l (works k n i vs s l)
 works-lower k n (instr.Const v) vs s l = refl
 works-lower k n (instr.Zeros m) vs s l = refl
 works-lower k n (instr.Drop m) vs s l = refl

@@ -1,7 +1,13 @@
+pub mod Checked
 pub mod Control
+pub mod Judged
+pub mod Listing
 pub mod Meaning
 pub mod Operands
+pub mod Reach
 pub mod Rules
+pub mod Standing
 pub mod Steps
+pub mod Waiting
 pub mod Worked
 pub mod Works

@@ -6,12 +6,26 @@
 #![tactic(auto)]
 
 mod code;
+mod facts;
+mod formats;
 mod instr;
 mod laws;
+mod lines;
+mod offers;
+mod operands;
+mod parts;
+mod reach;
 mod rule;
+mod rules;
+mod tables;
+mod unnamed;
+mod verified;
+mod waits;
 mod worked;
 
 pub use code::{EnvironmentPart, Part, RawCode, Site, TableEntry};
 pub use instr::Instr;
-pub use laws::code_goes_on;
+pub use laws::{code_goes_on, slices_end, verified_code_never_strays};
+pub use lines::listing;
 pub use rule::{Rule, VerifyError};
+pub use verified::{Code, verify};

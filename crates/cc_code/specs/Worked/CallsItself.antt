@@ -1,6 +1,6 @@
 -- f(int n) { if (n) return f(n - 1); return 0; }
 -- main() { putchar(f(2) + 65); }
-use Rattle.std.specs.Prelude.{pos, List, [], ◌∷◌}
+use Rattle.std.specs.Prelude.{pos, [], ◌∷◌}
 use Rattle.cc_base.specs.declared.numbers.NumberType.TheVariants.{Int}
 use Rattle.cc_code.specs.declared.code.RawCode.{RawCode}
 use Rattle.cc_code.specs.declared.instr.Instr.TheVariants as instr

@@ -1,5 +1,5 @@
 -- main() { putchar(72); putchar(105); }
-use Rattle.std.specs.Prelude.{pos, List, [], ◌∷◌}
+use Rattle.std.specs.Prelude.{pos, [], ◌∷◌}
 use Rattle.cc_code.specs.declared.code.RawCode.{RawCode}
 use Rattle.cc_code.specs.declared.instr.Instr.TheVariants as instr
 

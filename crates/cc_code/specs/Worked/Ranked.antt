@@ -1,7 +1,7 @@
 -- process spec s() { trans async t(int x); };
 -- process body s() { select { accept t(x) suchthat (10 / x) by (0 - x) { } or terminate; } }
 -- main() { create s(); }
-use Rattle.std.specs.Prelude.{pos, List, [], ◌∷◌, Some, None, true}
+use Rattle.std.specs.Prelude.{pos, [], ◌∷◌, Some, None, true}
 use Rattle.cc_base.specs.declared.numbers.NumberType.TheVariants.{Int}
 use Rattle.cc_code.specs.declared.code.RawCode.{RawCode}
 use Rattle.cc_code.specs.declared.instr.Instr.TheVariants as instr
