@@ -1,3 +1,4 @@
+pub mod Untimed
 pub mod Loops
 pub mod Places
 pub mod Walking

@@ -96,7 +96,7 @@ impl<B: Behave> Kernel<B> {
     /// it was.
     pub fn prepare(&mut self, next: Option<&Request>) -> Result<(), Memory>
         requires asks { IfSome next (λ r. AsksNow (B.means self.old.code) self.old.input self.old.journal self.old.outs r.now) }
-        requires untimed { IfSome next (λ r. HasNoDeadline r.now) }
+        requires no_deadline { IfSome next (λ r. HasNoDeadline r.now) }
         ensures request { IfSome next.entry (λ r. OnOk result (IsPreparedFor self.new r.now)) }
         ensures time { IfNone next.entry (OnOk result (self.new.prepared ≡ Moment)) }
         ensures rest { self.new ≡ record self.old { prepared = self.new.prepared } }
@@ -116,7 +116,7 @@ impl<B: Behave> Kernel<B> {
         requires out { IsOutWith (B.means self.old.code) (B.at self.old.code) self.old.input self.old.journal self.old.outs pid.0 process }
         requires asks { request ≡ request_at (B.means self.old.code) (state_after (B.means self.old.code) self.old.input self.old.journal) pid }
         requires going { standing_of (B.means self.old.code) self.old.input self.old.journal self.old.turns ≡ Going }
-        requires untimed { HasNoDeadline request }
+        requires no_deadline { HasNoDeadline request }
         ensures code { self.new.code ≡ self.old.code }
         ensures input { self.new.input ≡ self.old.input }
         ensures turns { self.new.turns ≡ self.old.turns }

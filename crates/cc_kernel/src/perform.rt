@@ -56,7 +56,7 @@ fn change_store<B: Behave>(
     requires calls { 0 < store.old.pending.spare }
     requires seats { 0 < store.old.seats.spare }
     requires few { store.old.drawn < 4294967295 }
-    requires untimed { HasNoDeadline request }
+    requires no_deadline { HasNoDeadline request }
     requires enough { IsEnoughFor (prepared_for need) request }
     requires ready { (events : ℕ) × IsReadyFor (B.means code.now) (B.at code.now) store.old events need }
     requires known { All (λ call. call.trans < length (B.means code.now).shapes) store.old.served.items }
@@ -118,7 +118,7 @@ pub(crate) fn perform<B: Behave>(
     requires calls { 0 < store.old.pending.spare }
     requires seats { 0 < store.old.seats.spare }
     requires few { store.old.drawn < 4294967295 }
-    requires untimed { HasNoDeadline request }
+    requires no_deadline { HasNoDeadline request }
     requires enough { IsEnoughFor (prepared_for need) request }
     requires ready { (events : ℕ) × IsReadyFor (B.means code.now) (B.at code.now) store.old events need }
     requires known { All (λ call. call.trans < length (B.means code.now).shapes) store.old.served.items }

@@ -62,7 +62,7 @@ returns-in-Send-clause-outs g c =
 
 pub returns-in-Select-clause-state : goal.returns-in-Select-clause-state
 returns-in-Select-clause-state g c s k a =
-    let untimed = rw c.in-Select.is at c.requires.untimed in
+    let untimed = rw c.in-Select.is at c.requires.no_deadline in
     rw (c.in-Select.is, c.select.ensures.contents)
     (state-asks-select (g.B.Behave.means c.args.code.now) (g.B.Behave.at c.args.code.now) s (contents c.args.store.now) c.args.pid.0 c.args.process c.in-Select.alts k untimed a)
 
