@@ -64,7 +64,7 @@ rise-head b alts j a rise e =
     got (y ∷ xs) (suc i) x h = let r = got xs i x h in (let lt : i < length xs = r.0 in omega arith, r.1)
 
 -- an alternative is found by its number
-numbered-is : (alts : List (ℕ × Alt)) (j : ℕ) (a : ℕ × Alt) → NumbersRise alts → slice_get alts j ≡ Some a → numbered alts a.0 ≡ Some a.1
+pub numbered-is : (alts : List (ℕ × Alt)) (j : ℕ) (a : ℕ × Alt) → NumbersRise alts → slice_get alts j ≡ Some a → numbered alts a.0 ≡ Some a.1
 numbered-is [] j a rise e = cc
 numbered-is (b ∷ alts) zero a rise e = here b a (cc)
   where

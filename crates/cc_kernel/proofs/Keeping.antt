@@ -1,5 +1,5 @@
 -- The kernel keeps its run where a process goes out, and what a process asks is done.
-use Rattle.std.proofs.Common.{◌≡◌, ℕ, ◌+◌, ◌<◌, ◌≤◌, ℤ, Bool, true, false, List, [], ◌∷◌, ◌++◌, length, set, map, refl, sym, ◌∙◌, subst, arith, append_assoc, cond, nat_eq, rules}
+use Rattle.std.proofs.Common.{◌≡◌, ℕ, ◌+◌, ◌<◌, ◌≤◌, ℤ, Bool, true, false, List, [], ◌∷◌, ◌++◌, length, set, map, refl, sym, ap, ◌∙◌, subst, arith, append_assoc, cond, nat_eq, rules}
 use Rattle.std.specs.Prelude.{All}
 use Rattle.std.specs.List.{filter, list_any}
 use Rattle.std.proofs.lemmas.List.Elements.{All-cons, All-head, All-nil, All-tail}
@@ -21,15 +21,15 @@ use Rattle.cc_kernel.specs.declared.seat.Seat.{Seat}
 use Rattle.cc_base.specs.declared.names.Pid.{Pid}
 use Rattle.cc_base.specs.declared.request.Request.{Request}
 use Rattle.cc_base.specs.declared.request.Request.TheVariants as request
-use Rattle.cc_kernel.proofs.Plain.{not-due, quiet-contents, settled-contents}
-use Rattle.cc_kernel.proofs.Seated.{plain-at}
+use Rattle.cc_kernel.proofs.Plain.{running-not-due}
+use Rattle.cc_rules.proofs.NextStays.{running-within}
+use Rattle.cc_rules.proofs.Settled.{IsSettled-by_test}
 use Rattle.cc_kernel.proofs.Settling.{any-time}
 use Rattle.cc_kernel.specs.Settles.{Settles}
 use Rattle.cc_rules.proofs.GoOn.{IsRunFrom-append, IsSettledFrom-append, after-append, turns-append}
 use Rattle.cc_rules.proofs.QuietEvents.{settling-settled, settling-turns}
 use Rattle.cc_rules.specs.Effects.{effect}
-use Rattle.cc_rules.specs.Choice.{is_acceptable}
-use Rattle.cc_rules.specs.Ends.{is_due}
+use Rattle.cc_rules.specs.Ends.{is_due, is_unsettled}
 use Rattle.cc_rules.specs.Events.{is_legal, next, request_at, same_word, word_of}
 use Rattle.cc_rules.specs.Runs.{IsRun, IsSettledRun, after, state_after, turns}
 use Rattle.cc_rules.specs.State.{State, first_state, is_running, process_at}
@@ -39,14 +39,15 @@ use Rattle.cc_rules.specs.declared.event.Event.TheVariants.{Ask}
 module _ {P : Type 0} (m : Meaning) (located : P → ℕ → List ℤ → List Grant → Type 0) where
   ready-seats :
       (store : Store P) (room : ℕ) (x : Need P) (seats : SeatList P)
+      → length seats.items ≡ length store.seats.items
       → seats.spare ≡ store.seats.spare
       → IsReadyFor m located store room x
       → IsReadyFor m located (record store { seats = seats }) room x
-  ready-seats store room need.Nothing seats e h = tt
-  ready-seats store room need.Step seats e h = (h.0, h.1, h.2, rw e h.3)
-  ready-seats store room (need.Making kind args process) seats e h = ((h.0.0, h.0.1, h.0.2, rw e h.0.3), h.1)
-  ready-seats store room (need.Answering value zeros) seats e h = ((h.0.0, h.0.1, h.0.2, rw e h.0.3), h.1)
-  ready-seats store room need.Moment seats e h = (h.0, h.1, h.2, rw e h.3)
+  ready-seats store room need.Nothing seats l e h = tt
+  ready-seats store room need.Step seats l e h = (rw l h.0, h.1, h.2, rw e h.3)
+  ready-seats store room (need.Making kind args process) seats l e h = ((rw l h.0.0, h.0.1, h.0.2, rw e h.0.3), h.1)
+  ready-seats store room (need.Answering value zeros) seats l e h = ((rw l h.0.0, h.0.1, h.0.2, rw e h.0.3), h.1)
+  ready-seats store room need.Moment seats l e h = (rw l h.0, h.1, h.2, rw e h.3)
 
   -- a process that is ready goes out
   state-out :
@@ -67,7 +68,7 @@ module _ {P : Type 0} (m : Meaning) (located : P → ℕ → List ℤ → List G
         input = k.input;
         moment = k.moment;
         rising = k.rising;
-        awaited = k.awaited;
+        untimed = k.untimed;
       }
 
   pub kept-out :
@@ -87,7 +88,7 @@ module _ {P : Type 0} (m : Meaning) (located : P → ℕ → List ℤ → List G
         spent_turns = k.spent_turns;
         within = k.within;
         low = k.low;
-        ready = ready-seats store room x seats spare k.ready;
+        ready = ready-seats store room x seats (ap length same ∙ length-set store.seats.items i (with_out (seat_at store.seats.items i))) spare k.ready;
         unlisted = k.unlisted;
         listable = k.listable;
       }
@@ -151,9 +152,9 @@ module _ {P : Type 0} (m : Meaning) (located : P → ℕ → List ℤ → List G
       let es = done.goes_on.more in
       let whole : more ≡ events ++ e ∷ es = done.goes_on.journal ∙ append_assoc events (e ∷ []) es in
       let last : state_after m store.input (events ++ e ∷ es) ≡ after m (next m s e) es = after-append m first events (e ∷ es) in
-      let quiet = quiet-contents m located (after m (next m s e) es) (contents store') done.goes_on.state done.settled in
-      let settled = settled-contents m located (after m (next m s e) es) (contents store') done.goes_on.state quiet in
-      let legal = legal-ask m s p r (not-due m s (λ i. plain-at located s.processes store.seats.items i k.state.seated)) running asks in
+      let quiet = done.settled in
+      let settled = IsSettled-by_test m (after m (next m s e) es) quiet in
+      let legal = legal-ask m s p r (running-not-due m s p.0 (running-within s.processes p.0 running) running) running asks in
       record {
         runs =
             (let F : List ℕ → Type 0 = λ input. IsRun m input more in
@@ -163,12 +164,12 @@ module _ {P : Type 0} (m : Meaning) (located : P → ℕ → List ℤ → List G
             subst F (sym same-input)
             (rw whole
             (IsSettledFrom-append m first events (e ∷ es) k.settled
-            (λ asked. settled-contents m located s (contents store) k.state k.quiet, settling-settled m (next m s e) es done.goes_on.settles settled))));
+            (λ asked. IsSettled-by_test m s k.quiet, settling-settled m (next m s e) es done.goes_on.settles settled))));
         state =
             (let F : List ℕ → Type 0 = λ input. IsState located (state_after m input more) (contents store') in
             subst F (sym same-input) (rw (whole, last) done.goes_on.state));
         quiet =
-            (let F : List ℕ → Type 0 = λ input. list_any (is_acceptable m (state_after m input more)) (state_after m input more).pending ≡ false in
+            (let F : List ℕ → Type 0 = λ input. is_unsettled m (state_after m input more) ≡ false in
             subst F (sym same-input) (rw (whole, last) quiet));
         spent_turns =
             (let t = turns-append events (e ∷ es) in

@@ -1,3 +1,7 @@
+pub mod Untimed
+pub mod Loops
+pub mod Places
+pub mod Walking
 pub mod Serving
 pub mod Seated
 pub mod Outs
@@ -6,6 +10,7 @@ pub mod Simulates
 pub mod Plain
 pub mod Known
 pub mod Settling
+pub mod Ending
 pub mod Listed
 pub mod Readying
 pub mod Requests

@@ -1,24 +1,29 @@
--- Where processes take nothing but calls, and no deadline stands, a state in which no call can be taken is settled.
-use Rattle.std.proofs.Common.{◌≡◌, ℕ, suc, ℤ, Bool, true, false, ◌&&◌, ◌||◌, not, List, [], ◌∷◌, refl, sym, ap, ◌∙◌, nat_eq, Option, Some, None}
+-- Where no deadline stands, a state is settled in which no call and no immediate alternative can be taken and the collective
+-- end is not due.
+use Rattle.std.proofs.Common.{◌≡◌, ℕ, suc, ℤ, Bool, true, false, ◌&&◌, ◌||◌, not, List, [], ◌∷◌, length, ◌<◌, get_or, refl, sym, ap, ◌∙◌, nat_eq, Option, Some, None}
 use Rattle.std.specs.Prelude.{is_some, if◌then◌else◌, nat_le}
-use Rattle.std.specs.List.{enumerate_from, find, list_any}
+use Rattle.std.specs.List.{enumerate_from, find, list_all, list_any}
 use Rattle.std.specs.Option.{option_map_or}
-use Rattle.std.proofs.lemmas.Bool.{eqb-true}
+use Rattle.std.proofs.lemmas.Bool.{and_parts, eqb-true}
+use Rattle.std.proofs.lemmas.List.Folds.{list_any_at}
 use Rattle.cc_base.specs.Meaning.{Meaning}
 use Rattle.cc_base.specs.declared.alternatives.Alt.{Alt}
 use Rattle.cc_base.specs.declared.alternatives.Alt.TheVariants as alt
 use Rattle.cc_base.specs.declared.request.Grant.{Grant}
 use Rattle.cc_kernel.proofs.Seated.{plain-at, same-standing}
-use Rattle.cc_kernel.specs.Choice.{is_takable, some_takable, takes}
-use Rattle.cc_base.specs.Supported.{IsAccept}
-use Rattle.cc_kernel.specs.Store.{AllAwaited, IsAwaited, IsPlain, IsState, OnlyAccepts, Contents}
+use Rattle.cc_kernel.specs.Choice.{goes_at_once, is_takable, some_takable, takes}
+use Rattle.cc_kernel.specs.Settles.{IsCalm}
+use Rattle.cc_kernel.specs.Store.{AllUntimed, IsUntimed, IsPlain, IsState, Contents}
+use Rattle.cc_kernel.specs.Untimed.{IsNoDelay, NoDelays}
 use Rattle.cc_kernel.specs.Seats.{seat_at}
 use Rattle.cc_base.specs.Alternatives.{numbered}
-use Rattle.cc_rules.specs.Choice.{accepts, alternative_deadline, call_deadline, call_numbered, expires, expires_at, expiring_numbers, has_eligible, has_immediate, is_acceptable, is_chosen, is_first_due, is_immediate, is_terminate, may_withdraw, rank, some_process, takes_at_once}
+use Rattle.cc_rules.proofs.Bools.{both-ways}
+use Rattle.cc_rules.proofs.CollectiveEnd.{every-at, over_or_waits}
+use Rattle.cc_rules.proofs.Settled.{IsSettled-by_test}
+use Rattle.cc_rules.specs.Choice.{accepts, alternative_deadline, call_deadline, call_numbered, every_process, expires, expires_at, expiring_numbers, has_eligible, has_immediate, is_acceptable, is_chosen, is_eligible, is_first_due, is_immediate, is_terminate, may_withdraw, rank, some_process, takes_at_once}
 use Rattle.cc_rules.specs.Ends.{has_deadline, is_due, is_timed, is_unsettled, waits_at_terminate}
 use Rattle.cc_rules.specs.Runs.{IsSettled}
-use Rattle.cc_rules.specs.State.{Process, State, open_alternatives, process_at}
-use Rattle.cc_rules.specs.declared.event.Event.TheVariants.{Ask, Accept, Instant, Expire, Withdraw, Time, End}
+use Rattle.cc_rules.specs.State.{Process, State, is_over, is_running, open_alternatives, process_at}
 use Rattle.cc_rules.specs.declared.process.ProcessStanding.{ProcessStanding}
 use Rattle.cc_rules.specs.declared.process.ProcessStanding.TheVariants.{Running, AtSelect, AtDelay, AtCall, Ended, Faulted}
 use Rattle.cc_rules.specs.declared.process.TransactionCall.{TransactionCall}
@@ -45,30 +50,14 @@ none-of : {X : Type 0} (p : X → Bool) → ((x : X) → p x ≡ false) → (xs 
 none-of p h [] = refl
 none-of p h (x ∷ xs) = or-false (p x) (list_any p xs) (h x) (none-of p h xs)
 
--- of alternatives that accept
-no-terminate : (a : Alt) → IsAccept a → is_terminate a ≡ false
-no-terminate (alt.Accept trans site env) h = refl
-no-terminate (alt.After wait) h = refl
-no-terminate alt.Now h = refl
-no-terminate alt.Terminate h = absurd h
-
-no-immediate : (a : Alt) → IsAccept a → is_immediate a ≡ false
-no-immediate (alt.Accept trans site env) h = refl
-no-immediate (alt.After wait) h = refl
-no-immediate alt.Now h = absurd h
-no-immediate alt.Terminate h = refl
-
-no-deadline : (asked : ℕ) (a : Alt) → IsAccept a → alternative_deadline asked a ≡ None
+-- of alternatives that are no delays
+no-deadline : (asked : ℕ) (a : Alt) → IsNoDelay a → alternative_deadline asked a ≡ None
 no-deadline asked (alt.Accept trans site env) h = refl
 no-deadline asked (alt.After wait) h = absurd h
 no-deadline asked alt.Now h = refl
 no-deadline asked alt.Terminate h = refl
 
-none-terminate : (alts : List (ℕ × Alt)) → OnlyAccepts alts → list_any (λ a. is_terminate a.1) alts ≡ false
-none-terminate [] h = refl
-none-terminate (a ∷ alts) h = or-false (is_terminate a.1) (list_any (λ b. is_terminate b.1) alts) (no-terminate a.1 h.0) (none-terminate alts h.1)
-
-none-timed : (asked : ℕ) (alts : List (ℕ × Alt)) → OnlyAccepts alts → list_any (λ a. is_some (alternative_deadline asked a.1)) alts ≡ false
+none-timed : (asked : ℕ) (alts : List (ℕ × Alt)) → NoDelays alts → list_any (λ a. is_some (alternative_deadline asked a.1)) alts ≡ false
 none-timed asked [] h = refl
 none-timed asked (a ∷ alts) h =
     or-false (is_some (alternative_deadline asked a.1)) (list_any (λ b. is_some (alternative_deadline asked b.1)) alts)
@@ -79,61 +68,25 @@ if-either : {A : Type 0} (F : A → Type 0) (b : Bool) (x y : A) → F x → F y
 if-either F true x y h k = h
 if-either F false x y h k = k
 
-abbrev AcceptOrNone : Option Alt → Type 0
-AcceptOrNone None = Unit {0}
-AcceptOrNone (Some a) = IsAccept a
+abbrev NoDelayOrNone : Option Alt → Type 0
+NoDelayOrNone None = Unit {0}
+NoDelayOrNone (Some a) = IsNoDelay a
 
-numbered-accept : (alts : List (ℕ × Alt)) (i : ℕ) → OnlyAccepts alts → AcceptOrNone (numbered alts i)
-numbered-accept [] i h = tt
-numbered-accept (a ∷ alts) i h = if-either AcceptOrNone (nat_eq a.0 i) (Some a.1) (numbered alts i) h.0 (numbered-accept alts i h.1)
-
-not-at-once : (o : Option Alt) → AcceptOrNone o → option_map_or is_immediate o false ≡ false
-not-at-once None h = refl
-not-at-once (Some a) h = no-immediate a h
+numbered-no_delay : (alts : List (ℕ × Alt)) (i : ℕ) → NoDelays alts → NoDelayOrNone (numbered alts i)
+numbered-no_delay [] i h = tt
+numbered-no_delay (a ∷ alts) i h = if-either NoDelayOrNone (nat_eq a.0 i) (Some a.1) (numbered alts i) h.0 (numbered-no_delay alts i h.1)
 
 module _ (m : Meaning) (s : State) (plain : (p : ℕ) → IsPlain (process_at s.processes p).standing) where
-  open-none : (x : ProcessStanding) → IsPlain x → list_any (λ a. is_terminate a.1) (open_alternatives x) ≡ false
-  open-none Running h = refl
-  open-none (AtSelect alts asked) h = none-terminate alts h
-  open-none (AtDelay deadline) h = absurd h
-  open-none (AtCall call) h = refl
-  open-none Ended h = refl
-  open-none (Faulted kind) h = refl
-
-  none-waits : (p : ℕ) → waits_at_terminate m s p ≡ false
-  none-waits p =
-      and-false (list_any (λ a. is_terminate a.1) (open_alternatives (process_at s.processes p).standing) && not (has_eligible m s p)) (not (has_immediate s p))
-      (and-false (list_any (λ a. is_terminate a.1) (open_alternatives (process_at s.processes p).standing)) (not (has_eligible m s p))
-      (open-none (process_at s.processes p).standing (plain p)))
-
-  -- the collective end is not due
-  pub not-due : is_due m s ≡ false
-  not-due = and-false-right _ (some_process (waits_at_terminate m s) s) (none-of (λ e. waits_at_terminate m s e.0) (λ e. none-waits e.0) (enumerate_from 0 s.processes))
-
-  open-accepts : (x : ProcessStanding) (i : ℕ) → IsPlain x → AcceptOrNone (numbered (open_alternatives x) i)
-  open-accepts Running i h = tt
-  open-accepts (AtSelect alts asked) i h = numbered-accept alts i h
-  open-accepts (AtDelay deadline) i h = absurd h
-  open-accepts (AtCall call) i h = tt
-  open-accepts Ended i h = tt
-  open-accepts (Faulted kind) i h = tt
-
-  none-at-once : (p i : ℕ) → takes_at_once m s p i ≡ false
-  none-at-once p i =
-      and-false (option_map_or is_immediate (numbered (open_alternatives (process_at s.processes p).standing) i) false) (not (has_eligible m s p))
-      (not-at-once (numbered (open_alternatives (process_at s.processes p).standing) i) (open-accepts (process_at s.processes p).standing i (plain p)))
-
-  not-first : (moment asked i : ℕ) (alts : List (ℕ × Alt)) (o : Option Alt) (f : ℕ → Bool) → AcceptOrNone o
-      → option_map_or (λ a. option_map_or f (alternative_deadline asked a) false) o false ≡ false
-  not-first moment asked i alts None f h = refl
-  not-first moment asked i alts (Some a) f h = ap (λ o. option_map_or f o false) (no-deadline asked a h)
+  not-first : (asked : ℕ) (o : Option Alt) (f : ℕ → Bool) → NoDelayOrNone o → option_map_or (λ a. option_map_or f (alternative_deadline asked a) false) o false ≡ false
+  not-first asked None f h = refl
+  not-first asked (Some a) f h = ap (λ o. option_map_or f o false) (no-deadline asked a h)
 
   none-expires-at : (p i : ℕ) (x : ProcessStanding) → IsPlain x → expires_at m s p i x ≡ false
   none-expires-at p i Running h = refl
   none-expires-at p i (AtSelect alts asked) h =
       and-false (is_first_due s.moment asked alts i && not (has_eligible m s p)) (not (has_immediate s p))
       (and-false (is_first_due s.moment asked alts i) (not (has_eligible m s p))
-      (not-first s.moment asked i alts (numbered alts i) _ (numbered-accept alts i h)))
+      (not-first asked (numbered alts i) _ (numbered-no_delay alts i h)))
   none-expires-at p i (AtDelay deadline) h = absurd h
   none-expires-at p i (AtCall call) h = refl
   none-expires-at p i Ended h = refl
@@ -142,72 +95,39 @@ module _ (m : Meaning) (s : State) (plain : (p : ℕ) → IsPlain (process_at s.
   none-expires : (p i : ℕ) → expires m s p i ≡ false
   none-expires p i = none-expires-at p i (process_at s.processes p).standing (plain p)
 
--- no deadline stands for a call whose caller waits without one
-awaited-deadline : (w : Waiting) → IsAwaited w → call_deadline w ≡ None
-awaited-deadline Nobody h = absurd h
-awaited-deadline (Caller p) h = refl
-awaited-deadline (Until p deadline) h = absurd h
+-- no deadline stands for a call for which nobody waits with one
+untimed-deadline : (w : Waiting) → IsUntimed w → call_deadline w ≡ None
+untimed-deadline Nobody h = refl
+untimed-deadline (Caller p) h = refl
+untimed-deadline (Until p deadline) h = absurd h
 
-not-withdrawn : (m : Meaning) (s : State) (call : TransactionCall) → IsAwaited call.waiting → may_withdraw m s call ≡ false
+not-withdrawn : (m : Meaning) (s : State) (call : TransactionCall) → IsUntimed call.waiting → may_withdraw m s call ≡ false
 not-withdrawn m s call h =
     and-false (option_map_or (λ deadline. nat_le deadline s.moment) (call_deadline call.waiting) false) (not (is_acceptable m s call))
-    (ap (λ o. option_map_or (λ deadline. nat_le deadline s.moment) o false) (awaited-deadline call.waiting h))
+    (ap (λ o. option_map_or (λ deadline. nat_le deadline s.moment) o false) (untimed-deadline call.waiting h))
 
--- what holds of each pending call holds of the one that is found
-found-test :
-    (p q : TransactionCall → Bool) (calls : List TransactionCall)
-    → list_any q calls ≡ false
-    → ((call : TransactionCall) → p call ≡ true → q call ≡ true)
-    → (n : ℕ) → option_map_or p (call_numbered calls n) false ≡ false
-found-test p q [] h f n = refl
-found-test p q (call ∷ calls) h f n =
-    let first = q call in
-    pick (nat_eq call.number.0 n)
-    (false-from (p call) (λ e. both-of (q call) (list_any q calls) h (f call e)))
-    (found-test p q calls (or-right (q call) (list_any q calls) h) f n)
-  where
-    both-of : (a b : Bool) → (a || b) ≡ false → a ≡ true → ⊥
-    both-of true b h k = cc
-    both-of false b h k = cc
+-- the collective end is not due where a process may not end
+pub not-due-where : (m : Meaning) (s : State) (p : ℕ) → p < length s.processes → over_or_waits m s p ≡ false → is_due m s ≡ false
+not-due-where m s p lt h =
+    false-from (is_due m s)
+    (λ due. both-ways (over_or_waits m s p) (every-at (over_or_waits m s) s p (and_parts (every_process (over_or_waits m s) s) (some_process (waits_at_terminate m s) s) due).0 lt) h)
 
-    or-right : (a b : Bool) → (a || b) ≡ false → b ≡ false
-    or-right true b h = cc
-    or-right false b h = h
+running-stays-on : (m : Meaning) (s : State) (p : ℕ) (x : ProcessStanding) → (process_at s.processes p).standing ≡ x → is_running x ≡ true → over_or_waits m s p ≡ false
+running-stays-on m s p Running e h = rw e refl
+running-stays-on m s p (AtSelect alts asked) e h = cc
+running-stays-on m s p (AtDelay deadline) e h = cc
+running-stays-on m s p (AtCall call) e h = cc
+running-stays-on m s p Ended e h = cc
+running-stays-on m s p (Faulted kind) e h = cc
 
-    pick : (b : Bool) → p call ≡ false → option_map_or p (find (λ c. nat_eq c.number.0 n) calls) false ≡ false → option_map_or p (if b then Some call else find (λ c. nat_eq c.number.0 n) calls) false ≡ false
-    pick true h k = h
-    pick false h k = k
+-- nor where one is running
+pub running-not-due : (m : Meaning) (s : State) (p : ℕ) → p < length s.processes → is_running (process_at s.processes p).standing ≡ true → is_due m s ≡ false
+running-not-due m s p lt h = not-due-where m s p lt (running-stays-on m s p (process_at s.processes p).standing refl h)
 
-found-withdrawn : (m : Meaning) (s : State) (calls : List TransactionCall) (n : ℕ) → AllAwaited calls → option_map_or (may_withdraw m s) (call_numbered calls n) false ≡ false
-found-withdrawn m s [] n h = refl
-found-withdrawn m s (call ∷ calls) n h = pick (nat_eq call.number.0 n) (not-withdrawn m s call h.0) (found-withdrawn m s calls n h.1)
-  where
-    pick : (b : Bool) → may_withdraw m s call ≡ false → option_map_or (may_withdraw m s) (find (λ c. nat_eq c.number.0 n) calls) false ≡ false → option_map_or (may_withdraw m s) (if b then Some call else find (λ c. nat_eq c.number.0 n) calls) false ≡ false
-    pick true h k = h
-    pick false h k = k
-
--- a call that is chosen for p is for p
-rank-target : (m : Meaning) (p : ℕ) (a : Alt) (call : TransactionCall) (f : ℤ → Bool) → option_map_or f (rank m p a call) false ≡ true → nat_eq call.target.0 p ≡ true
-rank-target m p (alt.Accept trans site env) call f h = cases (nat_eq call.target.0 p) (nat_eq call.trans trans) (m.fit site env call.args) h
-  where
-    cases : (a b : Bool) (o : Option ℤ) → option_map_or f (if a && b then o else None) false ≡ true → a ≡ true
-    cases true b o h = refl
-    cases false b o h = cc
-rank-target m p (alt.After wait) call f h = cc
-rank-target m p alt.Now call f h = cc
-rank-target m p alt.Terminate call f h = cc
-
-accepted-target : (m : Meaning) (p : ℕ) (call : TransactionCall) (calls : List TransactionCall) (o : Option Alt) → option_map_or (λ a. is_chosen m p a calls call) o false ≡ true → nat_eq call.target.0 p ≡ true
-accepted-target m p call calls None h = cc
-accepted-target m p call calls (Some a) h = rank-target m p a call _ h
-
-some-numbered : (alts : List (ℕ × Alt)) (i : ℕ) (f : ℕ → Bool) (g : Alt → Bool) → ((j : ℕ) → i ≡ j → f j ≡ true) → option_map_or g (numbered alts i) false ≡ true → list_any (λ a. f a.0) alts ≡ true
-some-numbered [] i f g all h = cc
-some-numbered (a ∷ alts) i f g all h =
-    elim (nat_eq a.0 i) as (λ b. nat_eq a.0 i ≡ b → option_map_or g (if b then Some a.1 else numbered alts i) false ≡ true → (f a.0 || list_any (λ b. f b.0) alts) ≡ true) [
-      | true ↦ λ e k. or-left (f a.0) (list_any (λ b. f b.0) alts) (all a.0 (sym (eqb-true a.0 i e)))
-      | false ↦ λ e k. or-behind (f a.0) (list_any (λ b. f b.0) alts) (some-numbered alts i f g all k)
-    ] refl h
+-- an alternative that passes stands under its number
+pub any-numbered : (test : Alt → Bool) (alts : List (ℕ × Alt)) (i : ℕ) → option_map_or test (numbered alts i) false ≡ true → list_any (λ a. test a.1) alts ≡ true
+any-numbered test [] i h = cc
+any-numbered test (a ∷ alts) i h = pick (nat_eq a.0 i) h (λ k. any-numbered test alts i k)
   where
     or-left : (a b : Bool) → a ≡ true → (a || b) ≡ true
     or-left true b h = refl
@@ -217,39 +137,62 @@ some-numbered (a ∷ alts) i f g all h =
     or-behind true b h = refl
     or-behind false b h = h
 
--- a call that some process may take its target may take
-accepts-takable :
-    (m : Meaning) (s : State) (p i : ℕ) (call : TransactionCall)
-    → accepts m s p i call ≡ true
-    → is_takable m (process_at s.processes call.target.0).standing s.pending call ≡ true
-accepts-takable m s p i call h =
-    let same : call.target.0 ≡ p = eqb-true call.target.0 p (accepted-target m p call s.pending (numbered (open_alternatives (process_at s.processes p).standing) i) h) in
-    let here : takes m (process_at s.processes call.target.0).standing s.pending i call ≡ true =
-    ap (λ t. option_map_or (λ a. is_chosen m t a s.pending call) (numbered (open_alternatives (process_at s.processes t).standing) i) false) same ∙ h in
-    some-numbered (open_alternatives (process_at s.processes call.target.0).standing) i
-    (λ j. takes m (process_at s.processes call.target.0).standing s.pending j call)
-    (λ a. is_chosen m call.target.0 a s.pending call)
-    (λ j e. ap (λ k. takes m (process_at s.processes call.target.0).standing s.pending k call) (sym e) ∙ here)
-    here
+    pick :
+        (b : Bool)
+        → option_map_or test (if b then Some a.1 else numbered alts i) false ≡ true
+        → (option_map_or test (numbered alts i) false ≡ true → list_any (λ c. test c.1) alts ≡ true)
+        → (test a.1 || list_any (λ c. test c.1) alts) ≡ true
+    pick true h rest = or-left (test a.1) (list_any (λ c. test c.1) alts) h
+    pick false h rest = or-behind (test a.1) (list_any (λ c. test c.1) alts) (rest h)
 
--- the state is settled where no pending call can be taken
-pub settled-state :
-    (m : Meaning) (s : State)
-    → ((p : ℕ) → IsPlain (process_at s.processes p).standing)
-    → AllAwaited s.pending
-    → list_any (λ call. is_takable m (process_at s.processes call.target.0).standing s.pending call) s.pending ≡ false
-    → IsSettled m s
-settled-state m s plain awaited none (Ask p w) q = cc
-settled-state m s plain awaited none (Accept p i c) q =
-    rw (not-due m s plain)
-    (found-test (accepts m s p.0 i) (λ call. is_takable m (process_at s.processes call.target.0).standing s.pending call) s.pending none
-    (λ call h. accepts-takable m s p.0 i call h)
-    c.0)
-settled-state m s plain awaited none (Instant p i) q = rw (not-due m s plain) (none-at-once m s plain p.0 i)
-settled-state m s plain awaited none (Expire p i) q = rw (not-due m s plain) (none-expires m s plain p.0 i)
-settled-state m s plain awaited none (Withdraw c) q = rw (not-due m s plain) (found-withdrawn m s s.pending c.0 awaited)
-settled-state m s plain awaited none (Time t) q = cc
-settled-state m s plain awaited none End q = rw (not-due m s plain) refl
+-- where no alternative passes, none does under its number
+pub none-numbered : (test : Alt → Bool) (alts : List (ℕ × Alt)) → list_any (λ a. test a.1) alts ≡ false → (i : ℕ) → option_map_or test (numbered alts i) false ≡ false
+none-numbered test alts none i = false-from (option_map_or test (numbered alts i) false) (λ h. both-ways (list_any (λ a. test a.1) alts) (any-numbered test alts i h) none)
+
+selecting-stays-on :
+    (m : Meaning) (s : State) (p : ℕ) (x : ProcessStanding)
+    → (process_at s.processes p).standing ≡ x
+    → is_over x ≡ false
+    → (has_eligible m s p || has_immediate s p) ≡ true
+    → over_or_waits m s p ≡ false
+selecting-stays-on m s p x e o h =
+    or-false (is_over (process_at s.processes p).standing) (waits_at_terminate m s p)
+    (ap is_over e ∙ o)
+    (none-left (list_any (λ a. is_terminate a.1) (open_alternatives (process_at s.processes p).standing)) (has_eligible m s p) (has_immediate s p) h)
+  where
+    none-left : (a b c : Bool) → (b || c) ≡ true → (a && not b && not c) ≡ false
+    none-left false b c h = refl
+    none-left true true c h = refl
+    none-left true false true h = refl
+    none-left true false false h = cc
+
+-- nor where one can take a call or an immediate alternative
+pub choosing-not-due :
+    (m : Meaning) (s : State) (p : ℕ)
+    → p < length s.processes
+    → is_over (process_at s.processes p).standing ≡ false
+    → (has_eligible m s p || has_immediate s p) ≡ true
+    → is_due m s ≡ false
+choosing-not-due m s p lt o h = not-due-where m s p lt (selecting-stays-on m s p (process_at s.processes p).standing refl o h)
+
+some-is : (o : Option ℤ) (f : ℤ → Bool) → option_map_or f o false ≡ true → is_some o ≡ true
+some-is None f h = cc
+some-is (Some k) f h = refl
+
+-- a process that may take a pending call has an eligible one
+pub takes-eligible :
+    (m : Meaning) (s : State) (p i j : ℕ) (call d : TransactionCall)
+    → j < length s.pending
+    → get_or s.pending j d ≡ call
+    → option_map_or (λ a. is_chosen m p a s.pending call) (numbered (open_alternatives (process_at s.processes p).standing) i) false ≡ true
+    → has_eligible m s p ≡ true
+takes-eligible m s p i j call d lt e h =
+    any-numbered (λ a. list_any (is_eligible m p a) s.pending) (open_alternatives (process_at s.processes p).standing) i
+    (weaker (numbered (open_alternatives (process_at s.processes p).standing) i) h)
+  where
+    weaker : (o : Option Alt) → option_map_or (λ a. is_chosen m p a s.pending call) o false ≡ true → option_map_or (λ a. list_any (is_eligible m p a) s.pending) o false ≡ true
+    weaker None h = cc
+    weaker (Some a) h = list_any_at (is_eligible m p a) s.pending j d lt (ap (is_eligible m p a) e ∙ some-is (rank m p a call) _ h)
 
 any-agrees : {X : Type 0} (p q : X → Bool) (xs : List X) → ((x : X) → p x ≡ q x) → list_any p xs ≡ list_any q xs
 any-agrees p q [] h = refl
@@ -267,43 +210,72 @@ quiet-contents m located s x k none =
     ∙ ap (λ calls. list_any (λ call. is_takable m (seat_at x.seats call.target.0).standing calls call) calls) (sym k.pending)
     ∙ none
 
--- what is kept is settled where no call can be taken
-pub settled-contents :
+-- no call and no immediate alternative can be taken, as the seats tell it
+pub calm-contents :
     {P : Type 0} (m : Meaning) (located : P → ℕ → List ℤ → List Grant → Type 0) (s : State) (x : Contents P)
     → IsState located s x
-    → list_any (is_acceptable m s) s.pending ≡ false
-    → IsSettled m s
-settled-contents m located s x k none =
-    settled-state m s (λ p. plain-at located s.processes x.seats p k.seated) k.awaited none
+    → some_takable m x.seats x.pending ≡ false
+    → ((p i : ℕ) → goes_at_once m p (seat_at x.seats p).standing x.pending i ≡ false)
+    → IsCalm m s
+calm-contents m located s x k none none' =
+    record {
+      no_call = quiet-contents m located s x k none;
+      none_at_once = λ p i.
+          ap (λ st. goes_at_once m p st s.pending i) (sym (same-standing located s.processes x.seats p k.seated))
+          ∙ ap (λ calls. goes_at_once m p (seat_at x.seats p).standing calls i) (sym k.pending)
+          ∙ none' p i;
+    }
 
--- nothing else is unsettled, and no deadline stands
+-- a settled state by its test
 pub not-unsettled :
     (m : Meaning) (s : State)
     → ((p : ℕ) → IsPlain (process_at s.processes p).standing)
-    → AllAwaited s.pending
-    → list_any (is_acceptable m s) s.pending ≡ false
+    → AllUntimed s.pending
+    → IsCalm m s
+    → is_due m s ≡ false
     → is_unsettled m s ≡ false
-not-unsettled m s plain awaited none =
+not-unsettled m s plain untimed calm due =
     five (is_due m s) (list_any (is_acceptable m s) s.pending)
     (some_process (λ p. list_any (λ a. takes_at_once m s p a.0) (open_alternatives (process_at s.processes p).standing)) s)
     (some_process (λ p. list_any (expires m s p) (expiring_numbers (process_at s.processes p).standing)) s)
     (list_any (may_withdraw m s) s.pending)
-    (not-due m s plain)
-    none
+    due
+    calm.no_call
     (none-of (λ e. list_any (λ a. takes_at_once m s e.0 a.0) (open_alternatives (process_at s.processes e.0).standing))
-    (λ e. none-of (λ a. takes_at_once m s e.0 a.0) (λ a. none-at-once m s plain e.0 a.0) (open_alternatives (process_at s.processes e.0).standing))
+    (λ e. none-of (λ a. takes_at_once m s e.0 a.0) (λ a. calm.none_at_once e.0 a.0) (open_alternatives (process_at s.processes e.0).standing))
     (enumerate_from 0 s.processes))
     (none-of (λ e. list_any (expires m s e.0) (expiring_numbers (process_at s.processes e.0).standing))
     (λ e. none-of (expires m s e.0) (none-expires m s plain e.0) (expiring_numbers (process_at s.processes e.0).standing))
     (enumerate_from 0 s.processes))
-    (none-withdrawn s.pending awaited)
+    (none-withdrawn s.pending untimed)
   where
     five : (a b c d e : Bool) → a ≡ false → b ≡ false → c ≡ false → d ≡ false → e ≡ false → (a || b || c || d || e) ≡ false
     five a b c d e ha hb hc hd he = rw (ha, hb, hc, hd, he) refl
 
-    none-withdrawn : (calls : List TransactionCall) → AllAwaited calls → list_any (may_withdraw m s) calls ≡ false
+    none-withdrawn : (calls : List TransactionCall) → AllUntimed calls → list_any (may_withdraw m s) calls ≡ false
     none-withdrawn [] h = refl
     none-withdrawn (call ∷ calls) h = or-false (may_withdraw m s call) (list_any (may_withdraw m s) calls) (not-withdrawn m s call h.0) (none-withdrawn calls h.1)
+
+-- where every process is over and no call is pending, nothing more comes
+over-calm : (m : Meaning) (s : State) (p : ℕ) (x : ProcessStanding) → (process_at s.processes p).standing ≡ x → is_over x ≡ true → (waits_at_terminate m s p ≡ false) × ((i : ℕ) → takes_at_once m s p i ≡ false)
+over-calm m s p Running e h = cc
+over-calm m s p (AtSelect alts asked) e h = cc
+over-calm m s p (AtDelay deadline) e h = cc
+over-calm m s p (AtCall call) e h = cc
+over-calm m s p Ended e h = (rw e refl, λ i. rw e refl)
+over-calm m s p (Faulted kind) e h = (rw e refl, λ i. rw e refl)
+
+pub over-quiet :
+    (m : Meaning) (s : State)
+    → ((p : ℕ) → IsPlain (process_at s.processes p).standing)
+    → s.pending ≡ []
+    → ((p : ℕ) → is_over (process_at s.processes p).standing ≡ true)
+    → is_unsettled m s ≡ false
+over-quiet m s plain none over =
+    not-unsettled m s plain (rw none tt)
+    (record { no_call = rw none refl; none_at_once = λ p i. (over-calm m s p (process_at s.processes p).standing refl (over p)).1 i })
+    (and-false-right _ (some_process (waits_at_terminate m s) s)
+    (none-of (λ e. waits_at_terminate m s e.0) (λ e. (over-calm m s e.0 (process_at s.processes e.0).standing refl (over e.0)).0) (enumerate_from 0 s.processes)))
 
 not-timed : (x : ProcessStanding) → IsPlain x → is_timed x ≡ false
 not-timed Running h = refl
@@ -316,20 +288,20 @@ not-timed (Faulted kind) h = refl
 pub no-deadlines :
     (s : State)
     → ((p : ℕ) → IsPlain (process_at s.processes p).standing)
-    → AllAwaited s.pending
+    → AllUntimed s.pending
     → has_deadline s ≡ false
-no-deadlines s plain awaited =
+no-deadlines s plain untimed =
     or-false (list_any (λ q. is_timed q.standing) s.processes) (list_any (λ call. is_some (call_deadline call.waiting)) s.pending)
     (of-processes s.processes plain)
-    (of-calls s.pending awaited)
+    (of-calls s.pending untimed)
   where
     of-processes : (qs : List Process) → ((p : ℕ) → IsPlain (process_at qs p).standing) → list_any (λ q. is_timed q.standing) qs ≡ false
     of-processes [] h = refl
     of-processes (q ∷ qs) h = or-false (is_timed q.standing) (list_any (λ r. is_timed r.standing) qs) (not-timed q.standing (h 0)) (of-processes qs (λ p. h (suc p)))
 
-    of-calls : (calls : List TransactionCall) → AllAwaited calls → list_any (λ call. is_some (call_deadline call.waiting)) calls ≡ false
+    of-calls : (calls : List TransactionCall) → AllUntimed calls → list_any (λ call. is_some (call_deadline call.waiting)) calls ≡ false
     of-calls [] h = refl
     of-calls (call ∷ calls) h =
         or-false (is_some (call_deadline call.waiting)) (list_any (λ other. is_some (call_deadline other.waiting)) calls)
-        (ap is_some (awaited-deadline call.waiting h.0))
+        (ap is_some (untimed-deadline call.waiting h.0))
         (of-calls calls h.1)

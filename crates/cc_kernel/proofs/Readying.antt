@@ -1,7 +1,6 @@
 -- The kernel keeps its run where it is prepared.
 use Rattle.std.proofs.Common.{◌≡◌, ℕ, ◌≤◌, ℤ, List, length, sym, ap, ◌∙◌, subst, arith, true, false, Option, Some, None}
 use Rattle.std.specs.Prelude.{IfSome, map}
-use Rattle.std.specs.List.{list_any}
 use Rattle.cc_base.specs.Grants.{HasKind}
 use Rattle.cc_base.specs.Meaning.{Meaning}
 use Rattle.cc_base.specs.Requests.{IsRequestOf}
@@ -9,17 +8,19 @@ use Rattle.cc_base.specs.declared.names.Pid.{Pid}
 use Rattle.cc_base.specs.declared.request.Grant.{Grant}
 use Rattle.cc_base.specs.declared.request.Request.{Request}
 use Rattle.cc_base.specs.declared.request.Request.TheVariants.{Create}
+use Rattle.cc_base.specs.declared.request.Request.TheVariants as request
 use Rattle.cc_kernel.proofs.Outs.{out-at}
 use Rattle.cc_kernel.proofs.Seated.{Seated-at, out-running}
 use Rattle.cc_kernel.proofs.Serving.{Rising-length}
-use Rattle.cc_kernel.specs.Contract.{AsksNow, is_out_in}
-use Rattle.cc_kernel.specs.Invariant.{IsKept, IsReadyFor}
+use Rattle.cc_kernel.specs.Contract.{AsksNow, IsEnoughFor, Nothing, is_out_in}
+use Rattle.cc_kernel.specs.Invariant.{HasRoom, IsKept, IsReadyFor, prepared_for}
 use Rattle.cc_kernel.specs.Store.{IsState, Contents, Seated, contents}
 use Rattle.cc_kernel.specs.Seats.{is_out, seat_at}
 use Rattle.cc_kernel.specs.declared.store.Store.{Store}
 use Rattle.cc_kernel.specs.declared.need.Need.{Need}
+use Rattle.cc_kernel.specs.declared.need.Need.TheVariants as need
 use Rattle.cc_kernel.specs.declared.seat.Seat.{Seat}
-use Rattle.cc_rules.specs.Choice.{is_acceptable}
+use Rattle.cc_rules.specs.Ends.{is_unsettled}
 use Rattle.cc_rules.specs.Events.{request_at}
 use Rattle.cc_rules.specs.Lists.{FaultList}
 use Rattle.cc_rules.specs.Runs.{IsRun, IsSettledRun, state_after}
@@ -76,7 +77,7 @@ module _ {P : Type 0} (m : Meaning) (located : P → ℕ → List ℤ → List G
             let G : Contents P → Type 0 = λ y. IsState located (state_after m store.input events) y in
             subst F (sym same-input) (subst G (sym same) k.state));
         quiet =
-            (let F : List ℕ → Type 0 = λ input. list_any (is_acceptable m (state_after m input events)) (state_after m input events).pending ≡ false in
+            (let F : List ℕ → Type 0 = λ input. is_unsettled m (state_after m input events) ≡ false in
             subst F (sym same-input) k.quiet);
         spent_turns = k.spent_turns;
         within = k.within;
@@ -85,3 +86,29 @@ module _ {P : Type 0} (m : Meaning) (located : P → ℕ → List ℤ → List G
         unlisted = k.unlisted;
         listable = k.listable;
       }
+
+nothing-enough : (r : Request) → IsEnoughFor Nothing r → ⊥
+nothing-enough request.Pause h = cc
+nothing-enough (request.Create kind args) h = cc
+nothing-enough (request.Call target trans args) h = cc
+nothing-enough (request.TimedCall target trans args wait) h = cc
+nothing-enough (request.Send target trans args) h = cc
+nothing-enough (request.Select alts) h = cc
+nothing-enough (request.Delay wait) h = cc
+nothing-enough (request.Reply value) h = let e = h.1 in cc
+nothing-enough (request.Print bytes) h = cc
+nothing-enough request.Get h = cc
+nothing-enough request.Done h = cc
+nothing-enough (request.Fault kind) h = cc
+
+-- there is room where what is made is enough for a request
+pub has-room :
+    {P : Type 0} (m : Meaning) (located : P → ℕ → List ℤ → List Grant → Type 0) (store : Store P) (room : ℕ) (x : Need P) (r : Request)
+    → IsEnoughFor (prepared_for x) r
+    → IsReadyFor m located store room x
+    → HasRoom store room
+has-room m located store room need.Nothing r h k = absurd (nothing-enough r h)
+has-room m located store room need.Step r h k = k
+has-room m located store room (need.Making kind args process) r h k = k.0
+has-room m located store room (need.Answering value zeros) r h k = k.0
+has-room m located store room need.Moment r h k = k

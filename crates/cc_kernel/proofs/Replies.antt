@@ -120,7 +120,7 @@ module _ {P : Type 0} (m : Meaning) (located : P → ℕ → List ℤ → List G
         input = k.input;
         moment = k.moment;
         rising = k.rising;
-        awaited = k.awaited;
+        untimed = k.untimed;
       }
 
   pub state-reply-none :
@@ -162,7 +162,7 @@ module _ {P : Type 0} (m : Meaning) (located : P → ℕ → List ℤ → List G
         input = k.input;
         moment = k.moment;
         rising = k.rising;
-        awaited = k.awaited;
+        untimed = k.untimed;
       })
 
   pub state-reply :

@@ -1,23 +1,23 @@
 -- What each request does to what is kept.
-use Rattle.std.proofs.Common.{◌≡◌, ℕ, zero, suc, ◌<◌, ◌≤◌, ℤ, Bool, true, false, not, List, [], ◌∷◌, ◌++◌, length, set, map, refl, sym, ap, ◌∙◌, subst, arith}
+use Rattle.std.proofs.Common.{◌≡◌, ℕ, zero, suc, ◌+◌, ◌<◌, ◌≤◌, ℤ, Bool, true, false, not, List, [], ◌∷◌, ◌++◌, length, set, map, refl, sym, ap, ◌∙◌, subst, arith, length-append}
 use Rattle.std.specs.Prelude.{All, if◌then◌else◌, nat_lt, pos, replicate}
 use Rattle.std.proofs.lemmas.Bool.Decides.{nat_tests}
-use Rattle.std.proofs.lemmas.List.{map-set}
+use Rattle.std.proofs.lemmas.List.{length-set, map-set}
 use Rattle.cc_base.specs.Meaning.{Meaning}
 use Rattle.cc_base.specs.declared.alternatives.Alt.{Alt}
 use Rattle.cc_base.specs.declared.names.FaultKind.TheVariants.{TooMany}
 use Rattle.cc_base.specs.declared.names.Pid.{Pid}
 use Rattle.cc_base.specs.declared.request.Grant.{Grant}
 use Rattle.cc_base.specs.declared.request.Grant.TheVariants.{Go, Gone, Made}
-use Rattle.cc_base.specs.declared.request.Request.TheVariants.{Call, Create}
-use Rattle.cc_kernel.proofs.Outs.{outs-gone}
+use Rattle.cc_base.specs.declared.request.Request.TheVariants.{Call, Create, Send}
+use Rattle.cc_kernel.proofs.Outs.{length-gone, outs-gone}
 use Rattle.cc_kernel.proofs.Seated.{Seated-length, same-standing}
-use Rattle.cc_kernel.proofs.Simulates.{map-append, state-call, state-go, state-leave, state-make, state-wait}
-use Rattle.cc_base.specs.Supported.{IsOneAccept}
+use Rattle.cc_kernel.proofs.Simulates.{map-append, state-call, state-go, state-leave, state-make, state-send, state-wait}
+use Rattle.cc_kernel.specs.Untimed.{NoDelays}
 use Rattle.cc_kernel.specs.Contract.{Answering, IsEnoughFor, Making, SameOuts, is_out_in}
 use Rattle.cc_kernel.specs.Invariant.{IsReadyFor, prepared_for}
-use Rattle.cc_kernel.specs.Store.{IsLocated, IsState, OnlyAccepts, Contents, called_contents, left_contents, made_contents, waited, went_on}
-use Rattle.cc_kernel.specs.Seats.{is_out, is_served_by, seat_at, served_call, with_left, with_ready, with_waiting}
+use Rattle.cc_kernel.specs.Store.{IsLocated, IsState, Contents, called_contents, left_contents, made_contents, sent_contents, waited, went_on}
+use Rattle.cc_kernel.specs.Seats.{gone_seats, is_out, is_served_by, seat_at, served_call, with_left, with_ready, with_waiting}
 use Rattle.cc_kernel.specs.declared.store.Store.{Store}
 use Rattle.cc_kernel.specs.declared.need.Need.{Need}
 use Rattle.cc_kernel.specs.declared.need.Need.TheVariants as need
@@ -29,7 +29,7 @@ use Rattle.cc_rules.specs.State.{State, is_over, made, process_at}
 use Rattle.std.specs.List.{filter}
 use Rattle.cc_rules.specs.declared.process.ProcessStanding.{ProcessStanding}
 use Rattle.cc_rules.specs.declared.process.ProcessStanding.TheVariants.{AtCall, AtSelect, Faulted}
-use Rattle.cc_rules.specs.declared.process.Waiting.TheVariants.{Caller}
+use Rattle.cc_rules.specs.declared.process.Waiting.TheVariants.{Caller, Nobody}
 
 module _ {P : Type 0} (m : Meaning) (located : P → ℕ → List ℤ → List Grant → Type 0) where
   -- it calls
@@ -52,11 +52,31 @@ module _ {P : Type 0} (m : Meaning) (located : P → ℕ → List ℤ → List G
       either true = state-go located s x p.0 process Gone k is
       either false = state-call located s x p process target trans args k is
 
+  -- it sends
+  pub state-asks-send :
+      (s : State) (x : Contents P) (p : Pid) (process : P) (target : Pid) (trans : ℕ) (args : List ℤ)
+      → IsState located s x
+      → IsLocated located s p.0 process
+      → IsState located (effect m s p (Send target trans args))
+      (if is_over (seat_at x.seats target.0).standing then went_on x p.0 process Go else sent_contents x p process target trans args)
+  state-asks-send s x p process target trans args k is =
+      rw (same-standing located s.processes x.seats target.0 k.seated) (either (is_over (process_at s.processes target.0).standing))
+    where
+      either :
+          (b : Bool)
+          → IsState located
+          (if not b
+          then called s (grant_to s.processes p.0 Go) target trans args Nobody
+          else record s { processes = grant_to s.processes p.0 Go })
+          (if b then went_on x p.0 process Go else sent_contents x p process target trans args)
+      either true = state-go located s x p.0 process Go k is
+      either false = state-send located s x p process target trans args k is
+
   -- it waits for one of these alternatives
   pub state-asks-select :
       (s : State) (x : Contents P) (p : ℕ) (process : P) (alts : List (ℕ × Alt))
       → IsState located s x
-      → OnlyAccepts alts
+      → NoDelays alts
       → IsLocated located s p process
       → IsState located (record s { processes = with_standing s.processes p (AtSelect alts s.moment) }) (waited x p process (AtSelect alts x.moment))
   state-asks-select s x p process alts k accepts is =
@@ -150,6 +170,12 @@ module _ {P : Type 0} where
   outs-call x p process target trans args true = map-set is_out x.seats p.0 (with_ready process Gone)
   outs-call x p process target trans args false = map-set is_out x.seats p.0 (with_waiting process (AtCall (record { 0 = x.drawn })))
 
+  pub outs-send :
+      (x : Contents P) (p : Pid) (process : P) (target : Pid) (trans : ℕ) (args : List ℤ) (b : Bool)
+      → map is_out (if b then went_on x p.0 process Go else sent_contents x p process target trans args).seats ≡ set (map is_out x.seats) p.0 false
+  outs-send x p process target trans args true = map-set is_out x.seats p.0 (with_ready process Go)
+  outs-send x p process target trans args false = map-set is_out x.seats p.0 (with_ready process Go)
+
   -- a new process is not out
   pub outs-create :
       (x : Contents P) (p : ℕ) (process new : P) (standing : ProcessStanding) (b : Bool)
@@ -161,8 +187,21 @@ module _ {P : Type 0} where
       ∙ ap (λ xs. is_out_in xs i) (map-set is_out x.seats p seat)
   outs-create x p process new standing false i = ap (λ xs. is_out_in xs i) (outs-left x p standing)
 
--- a single alternative that accepts
-pub only-accepts : (alts : List (ℕ × Alt)) → IsOneAccept alts → OnlyAccepts alts
-only-accepts [] h = absurd h
-only-accepts (a ∷ []) h = (h, tt)
-only-accepts (a ∷ b ∷ alts) h = absurd h
+  -- no seats more, where a process is over
+  pub places-left : (x : Contents P) (p : ℕ) (standing : ProcessStanding) → length (left_contents x p standing).seats ≤ length x.seats + 1
+  places-left x p standing =
+      let a = length-gone (gone_seats (set x.seats p (with_left standing)) (map served_call (filter (is_for p) x.pending))) (filter (is_served_by p) x.served) in
+      let b = length-gone (set x.seats p (with_left standing)) (map served_call (filter (is_for p) x.pending)) in
+      let c = length-set x.seats p (with_left standing) in
+      omega (arith, a, b, c)
+
+  -- one more, where a process is made
+  pub places-create :
+      (x : Contents P) (p : ℕ) (process new : P) (standing : ProcessStanding) (b : Bool)
+      → length (if b then made_contents x p process new else left_contents x p standing).seats ≤ length x.seats + 1
+  places-create x p process new standing true =
+      let seat : Seat P = with_ready process (Made (record { 0 = length x.seats })) in
+      let a = length-append (set x.seats p seat) (with_ready new Go ∷ []) in
+      let c = length-set x.seats p seat in
+      omega (arith, a, c)
+  places-create x p process new standing false = places-left x p standing

@@ -4,7 +4,7 @@ use Rattle.std.specs.Prelude.{remove}
 use Rattle.std.specs.List.{filter}
 use Rattle.std.proofs.lemmas.Bool.{eqb-true}
 use Rattle.std.proofs.lemmas.List.Elements.{filter-append}
-use Rattle.cc_kernel.specs.Store.{AllAwaited, IsAwaited, Rising}
+use Rattle.cc_kernel.specs.Store.{AllUntimed, IsUntimed, Rising}
 use Rattle.cc_kernel.specs.Seats.{SplitsAt, is_served_by, no_call, no_served}
 use Rattle.cc_kernel.specs.declared.served.ServedCall.{ServedCall}
 use Rattle.cc_rules.specs.Choice.{call_numbered}
@@ -114,17 +114,17 @@ without-is-remove low (call ∷ calls) high (suc j) h lt =
     rw (not-same call.number.0 (get_or calls j no_call).number.0 (omega arith))
     (ap (λ xs. call ∷ xs) (without-is-remove (call.number.0 + 1) calls high j h.1 (omega arith)))
 
-pub AllAwaited-push : (calls : List TransactionCall) (call : TransactionCall) → AllAwaited calls → IsAwaited call.waiting → AllAwaited (calls ++ call ∷ [])
-AllAwaited-push [] call h k = (k, tt)
-AllAwaited-push (other ∷ calls) call h k = (h.0, AllAwaited-push calls call h.1 k)
+pub AllUntimed-push : (calls : List TransactionCall) (call : TransactionCall) → AllUntimed calls → IsUntimed call.waiting → AllUntimed (calls ++ call ∷ [])
+AllUntimed-push [] call h k = (k, tt)
+AllUntimed-push (other ∷ calls) call h k = (h.0, AllUntimed-push calls call h.1 k)
 
-awaited-if : (call : TransactionCall) (calls : List TransactionCall) (b : Bool) → IsAwaited call.waiting → AllAwaited calls → AllAwaited (cond b (call ∷ calls) calls)
-awaited-if call calls true h k = (h, k)
-awaited-if call calls false h k = k
+untimed-if : (call : TransactionCall) (calls : List TransactionCall) (b : Bool) → IsUntimed call.waiting → AllUntimed calls → AllUntimed (cond b (call ∷ calls) calls)
+untimed-if call calls true h k = (h, k)
+untimed-if call calls false h k = k
 
-pub AllAwaited-filter : (p : TransactionCall → Bool) (calls : List TransactionCall) → AllAwaited calls → AllAwaited (filter p calls)
-AllAwaited-filter p [] h = tt
-AllAwaited-filter p (call ∷ calls) h = awaited-if call (filter p calls) (p call) h.0 (AllAwaited-filter p calls h.1)
+pub AllUntimed-filter : (p : TransactionCall → Bool) (calls : List TransactionCall) → AllUntimed calls → AllUntimed (filter p calls)
+AllUntimed-filter p [] h = tt
+AllUntimed-filter p (call ∷ calls) h = untimed-if call (filter p calls) (p call) h.0 (AllUntimed-filter p calls h.1)
 
 -- none of this server is left where its calls are taken out
 pub none-left : (p : ℕ) (calls : List ServedCall) → filter (is_served_by p) (filter (λ call. not (is_served_by p call)) calls) ≡ []

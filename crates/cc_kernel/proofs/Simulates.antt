@@ -11,8 +11,8 @@ use Rattle.cc_base.specs.declared.request.Grant.{Grant}
 use Rattle.cc_base.specs.declared.request.Grant.TheVariants.{Go, Made, Gone, Byte}
 use Rattle.cc_kernel.proofs.Outs.{gone_seats-append, length-gone}
 use Rattle.cc_kernel.proofs.Seated.{Seated-gone, Seated-left, Seated-length, Seated-push, Seated-ready, Seated-waiting}
-use Rattle.cc_kernel.proofs.Serving.{AllAwaited-filter, AllAwaited-push, Rising-filter, Rising-push, none-left, others-stay}
-use Rattle.cc_kernel.specs.Store.{IsLocated, IsPlain, IsState, Contents, called_contents, got_byte, left_contents, made_contents, waited, went_on}
+use Rattle.cc_kernel.proofs.Serving.{AllUntimed-filter, AllUntimed-push, Rising-filter, Rising-push, none-left, others-stay}
+use Rattle.cc_kernel.specs.Store.{IsLocated, IsPlain, IsState, Contents, called_contents, got_byte, left_contents, made_contents, sent_contents, waited, went_on}
 use Rattle.cc_kernel.specs.Seats.{gone_seats, is_served_by, served_call, with_left, with_ready}
 use Rattle.cc_kernel.specs.declared.seat.Seat.{Seat}
 use Rattle.cc_base.specs.Limits.{most_processes}
@@ -21,7 +21,7 @@ use Rattle.cc_rules.specs.State.{Process, State, is_over, is_running, made, proc
 use Rattle.cc_rules.specs.declared.process.ProcessStanding.{ProcessStanding}
 use Rattle.cc_rules.specs.declared.process.ProcessStanding.TheVariants.{AtCall}
 use Rattle.cc_rules.specs.declared.process.TransactionCall.{TransactionCall}
-use Rattle.cc_rules.specs.declared.process.Waiting.TheVariants.{Caller}
+use Rattle.cc_rules.specs.declared.process.Waiting.TheVariants.{Caller, Nobody}
 
 pub same-or-not : (i p : ℕ) → (i ≡ p) ⊎ (i ≢ p)
 same-or-not zero zero = inl refl
@@ -129,7 +129,7 @@ module _ {P : Type 0} (located : P → ℕ → List ℤ → List Grant → Type 
         input = k.input;
         moment = k.moment;
         rising = k.rising;
-        awaited = k.awaited;
+        untimed = k.untimed;
       }
 
   -- it waits
@@ -149,7 +149,7 @@ module _ {P : Type 0} (located : P → ℕ → List ℤ → List Grant → Type 
         input = k.input;
         moment = k.moment;
         rising = k.rising;
-        awaited = k.awaited;
+        untimed = k.untimed;
       }
 
   -- a call is pending
@@ -173,7 +173,7 @@ module _ {P : Type 0} (located : P → ℕ → List ℤ → List Grant → Type 
         input = k.input;
         moment = k.moment;
         rising = Rising-push 0 s.pending s.drawn call refl k.rising;
-        awaited = AllAwaited-push s.pending call k.awaited tt;
+        untimed = AllUntimed-push s.pending call k.untimed tt;
       }
 
   pub state-call :
@@ -185,6 +185,28 @@ module _ {P : Type 0} (located : P → ℕ → List ℤ → List Grant → Type 
       (called_contents x p process target trans args)
   state-call s x p process target trans args k is =
       rw (k.pending, k.drawn) (state-called s x p process target trans args k is)
+
+  -- it sends
+  pub state-send :
+      (s : State) (x : Contents P) (p : Pid) (process : P) (target : Pid) (trans : ℕ) (args : List ℤ)
+      → IsState located s x
+      → IsLocated located s p.0 process
+      → IsState located (called s (grant_to s.processes p.0 Go) target trans args Nobody) (sent_contents x p process target trans args)
+  state-send s x p process target trans args k is =
+      let go = state-go s x p.0 process Go k is in
+      let call : TransactionCall = record { number = record { 0 = s.drawn }; target = target; trans = trans; args = args; waiting = Nobody } in
+      rw (k.pending, k.drawn)
+      (record {
+        seated = go.seated;
+        few = go.few;
+        pending = refl;
+        served = go.served;
+        drawn = refl;
+        input = k.input;
+        moment = k.moment;
+        rising = Rising-push 0 s.pending s.drawn call refl k.rising;
+        untimed = AllUntimed-push s.pending call k.untimed tt;
+      })
 
   -- it is over
   pub state-leave :
@@ -214,7 +236,7 @@ module _ {P : Type 0} (located : P → ℕ → List ℤ → List Grant → Type 
         input = k.input;
         moment = k.moment;
         rising = Rising-filter (λ call. not (is_for p call)) 0 s.pending s.drawn k.rising;
-        awaited = AllAwaited-filter (λ call. not (is_for p call)) s.pending k.awaited;
+        untimed = AllUntimed-filter (λ call. not (is_for p call)) s.pending k.untimed;
       }
     where
       left-served :
@@ -257,7 +279,7 @@ module _ {P : Type 0} (located : P → ℕ → List ℤ → List Grant → Type 
         input = k.input;
         moment = k.moment;
         rising = k.rising;
-        awaited = k.awaited;
+        untimed = k.untimed;
       })
     where
       pushed-few : (seats : List (Seat P)) (seat : Seat P) → length seats < most_processes → length (seats ++ seat ∷ []) ≤ most_processes
@@ -283,5 +305,5 @@ module _ {P : Type 0} (located : P → ℕ → List ℤ → List Grant → Type 
         input = rest-drop x.input x.taken;
         moment = k.moment;
         rising = k.rising;
-        awaited = k.awaited;
+        untimed = k.untimed;
       })

@@ -5,14 +5,13 @@ use Rattle.std.specs.Prelude.{if◌then◌else◌}
 use Rattle.std.specs.List.{list_all, list_any}
 use Rattle.cc_base.specs.Meaning.{Meaning}
 use Rattle.cc_base.specs.declared.request.Grant.{Grant}
-use Rattle.cc_kernel.proofs.Plain.{no-deadlines, not-unsettled}
+use Rattle.cc_kernel.proofs.Plain.{no-deadlines}
 use Rattle.cc_kernel.proofs.Seated.{plain-at, same-standing}
 use Rattle.cc_kernel.specs.Contract.{SomeRunning}
 use Rattle.cc_kernel.specs.Seats.{seat_at}
 use Rattle.cc_kernel.specs.Store.{IsState, Contents, Seated}
 use Rattle.cc_rules.specs.Standing.{deadlines, least, standing_in}
 use Rattle.cc_kernel.specs.declared.seat.Seat.{Seat}
-use Rattle.cc_rules.specs.Choice.{is_acceptable}
 use Rattle.cc_rules.specs.Ends.{has_deadline, has_faulted, has_running, is_complete, is_unsettled}
 use Rattle.cc_rules.specs.Runs.{state_after}
 use Rattle.cc_rules.specs.declared.event.Event.{Event}
@@ -100,7 +99,7 @@ module _ {P : Type 0} (located : P → ℕ → List ℤ → List Grant → Type 
   pub stands-as :
       (m : Meaning) (s : State) (x : Contents P) (spent allowed : ℕ)
       → IsState located s x
-      → list_any (is_acceptable m s) s.pending ≡ false
+      → is_unsettled m s ≡ false
       → standing_in m s spent allowed
       ≡ plain_shape (list_all (λ seat. is_over seat.standing) x.seats) (list_any (λ seat. is_running seat.standing) x.seats)
       (nat_eq spent allowed) (list_any (λ seat. is_faulted seat.standing) x.seats)
@@ -108,8 +107,8 @@ module _ {P : Type 0} (located : P → ℕ → List ℤ → List Grant → Type 
       let plain = λ (p : ℕ). plain-at located s.processes x.seats p k.seated in
       let until = least (deadlines s) in
       shape-is m s spent allowed
-      ∙ ap (λ b. shape (is_complete s) (has_running s) b (has_deadline s) (nat_eq spent allowed) (has_faulted s) until) (not-unsettled m s plain k.awaited quiet)
-      ∙ ap (λ b. shape (is_complete s) (has_running s) false b (nat_eq spent allowed) (has_faulted s) until) (no-deadlines s plain k.awaited)
+      ∙ ap (λ b. shape (is_complete s) (has_running s) b (has_deadline s) (nat_eq spent allowed) (has_faulted s) until) quiet
+      ∙ ap (λ b. shape (is_complete s) (has_running s) false b (nat_eq spent allowed) (has_faulted s) until) (no-deadlines s plain k.untimed)
       ∙ plain-shape (is_complete s) (has_running s) (nat_eq spent allowed) (has_faulted s) until
       ∙ ap (λ b. plain_shape b (has_running s) (nat_eq spent allowed) (has_faulted s)) (all-same is_over s.processes x.seats k.seated)
       ∙ ap (λ b. plain_shape (list_all (λ seat. is_over seat.standing) x.seats) b (nat_eq spent allowed) (has_faulted s)) (any-same is_running s.processes x.seats k.seated)
@@ -167,7 +166,7 @@ not-all-over (seat ∷ seats) (suc i) h = and-behind (is_over seat.standing) (li
 pub running-goes :
     {P : Type 0} (located : P → ℕ → List ℤ → List Grant → Type 0) (m : Meaning) (s : State) (x : Contents P) (spent allowed i : ℕ)
     → IsState located s x
-    → list_any (is_acceptable m s) s.pending ≡ false
+    → is_unsettled m s ≡ false
     → nat_eq spent allowed ≡ false
     → is_running (process_at s.processes i).standing ≡ true
     → standing_in m s spent allowed ≡ Going
@@ -186,7 +185,7 @@ shape-left false false spent faulted h = cc
 pub going-left :
     {P : Type 0} (located : P → ℕ → List ℤ → List Grant → Type 0) (m : Meaning) (s : State) (x : Contents P) (spent allowed : ℕ)
     → IsState located s x
-    → list_any (is_acceptable m s) s.pending ≡ false
+    → is_unsettled m s ≡ false
     → standing_in m s spent allowed ≡ Going
     → nat_eq spent allowed ≡ false
 going-left located m s x spent allowed k quiet h = shape-left _ _ (nat_eq spent allowed) _ (sym (stands-as located m s x spent allowed k quiet) ∙ h)

@@ -9,7 +9,7 @@ use Rattle.cc_kernel.specs.Store.{IsState, contents}
 use Rattle.cc_kernel.specs.declared.need.Need.{Need}
 use Rattle.cc_kernel.specs.declared.need.Need.TheVariants as need
 use Rattle.cc_kernel.specs.declared.store.Store.{Store}
-use Rattle.cc_rules.specs.Choice.{is_acceptable}
+use Rattle.cc_rules.specs.Ends.{is_unsettled}
 use Rattle.cc_base.specs.Limits.{most_processes}
 use Rattle.cc_rules.specs.Lists.{FaultList}
 use Rattle.cc_rules.specs.Runs.{IsRun, IsSettledRun, state_after, turns}
@@ -26,7 +26,7 @@ prepared_for need.Moment = Moment
 -- there is room for the events, the calls and the process of one step
 abbrev pub HasRoom : {P : Type 0} → Store P → ℕ → Type 0
 HasRoom store events =
-    (length store.pending.items + 2 ≤ events)
+    (length store.seats.items + 3 ≤ events)
     × (length store.pending.items + 1 ≤ store.served.spare)
     × (0 < store.pending.spare)
     × (0 < store.seats.spare)
@@ -45,7 +45,7 @@ pub record IsKept {P : Type 0} (m : Meaning) (located : P → ℕ → List ℤ �
   pub runs : IsRun m store.input events
   pub settled : IsSettledRun m store.input events
   pub state : IsState located (state_after m store.input events) (contents store)
-  pub quiet : list_any (is_acceptable m (state_after m store.input events)) (state_after m store.input events).pending ≡ false
+  pub quiet : is_unsettled m (state_after m store.input events) ≡ false
   pub spent_turns : spent ≡ turns events
   pub within : spent ≤ allowed
   pub low : store.drawn ≤ spent

@@ -12,3 +12,5 @@ pub mod Invariant
 pub mod Choice
 -- what settling does
 pub mod Settles
+-- requests without a deadline
+pub mod Untimed

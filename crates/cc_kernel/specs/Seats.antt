@@ -1,5 +1,5 @@
 -- The seats of the processes, and the calls that they serve, as lists.
-use Rattle.std.specs.Prelude.{◌≡◌, ℕ, ◌+◌, Bool, true, false, List, [], ◌∷◌, ◌++◌, get_or, set, nat_eq, if◌then◌else◌}
+use Rattle.std.specs.Prelude.{◌≡◌, ℕ, ◌+◌, Bool, true, false, List, [], ◌∷◌, ◌++◌, count_by, get_or, set, nat_eq, if◌then◌else◌}
 use Rattle.std.specs.List.{filter}
 use Rattle.std.specs.Option.{option_map_or}
 use Rattle.cc_base.specs.declared.names.FaultKind.{FaultKind}
@@ -13,7 +13,7 @@ use Rattle.cc_kernel.specs.declared.served.ServedCall.{ServedCall}
 use Rattle.cc_rules.specs.Effects.{caller_of, waits_for}
 use Rattle.cc_rules.specs.Faulted.{fault_of}
 use Rattle.cc_rules.specs.declared.process.ProcessStanding.{ProcessStanding}
-use Rattle.cc_rules.specs.declared.process.ProcessStanding.TheVariants.{Running, Ended}
+use Rattle.cc_rules.specs.declared.process.ProcessStanding.TheVariants.{Running, AtSelect, AtDelay, AtCall, Ended, Faulted}
 use Rattle.cc_rules.specs.declared.process.TransactionCall.{TransactionCall}
 use Rattle.cc_rules.specs.declared.process.Waiting.TheVariants.{Nobody}
 
@@ -39,6 +39,15 @@ pub record SplitsAt (server : ℕ) (call : ServedCall) (old new : List ServedCal
   pub rest : new ≡ before ++ behind
   pub own : is_served_by server call ≡ true
   pub last : filter (is_served_by server) behind ≡ []
+
+-- it waits for an alternative
+abbrev pub is_at_select : ProcessStanding → Bool
+is_at_select Running = false
+is_at_select (AtSelect alts asked) = true
+is_at_select (AtDelay deadline) = false
+is_at_select (AtCall call) = false
+is_at_select Ended = false
+is_at_select (Faulted kind) = false
 
 module _ {P : Type 0} where
   -- what stands for the seat of a process that was never made
@@ -85,6 +94,10 @@ module _ {P : Type 0} where
   whereabouts_woken Out grant = Out
   whereabouts_woken (Waits process) grant = Ready process grant
   whereabouts_woken Left grant = Left
+
+  -- how many processes wait at a select
+  abbrev pub count_selecting : List (Seat P) → ℕ
+  count_selecting seats = count_by (λ seat. is_at_select seat.standing) seats
 
   -- a process that waits goes on with this grant
   abbrev pub woken : Seat P → Grant → Seat P

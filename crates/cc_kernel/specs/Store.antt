@@ -1,11 +1,12 @@
 -- What the kernel keeps of a state, and when it is the state that the machine is in.
 use Rattle.std.specs.Prelude.{◌≡◌, ℕ, ◌+◌, ◌≤◌, ℤ, true, false, not, List, [], ◌∷◌, ◌++◌, length, drop, get_or, map, nat_lt, remove, set, slice_get, if◌then◌else◌}
-use Rattle.std.specs.List.{filter}
-use Rattle.cc_base.specs.Supported.{IsAccept}
-use Rattle.cc_base.specs.declared.alternatives.Alt.{Alt}
+use Rattle.std.specs.List.{enumerate_from, filter}
+use Rattle.cc_base.specs.Meaning.{Meaning}
 use Rattle.cc_base.specs.declared.names.Pid.{Pid}
 use Rattle.cc_base.specs.declared.request.Grant.{Grant}
-use Rattle.cc_base.specs.declared.request.Grant.TheVariants.{Go, Made, Took, Byte}
+use Rattle.cc_base.specs.declared.request.Grant.TheVariants.{Go, Made, Took, Chose, Byte}
+use Rattle.cc_kernel.specs.Choice.{after_end, seat_waits}
+use Rattle.cc_kernel.specs.Untimed.{NoDelays}
 use Rattle.cc_kernel.specs.Seats.{gone_seats, is_served_by, no_call, seat_at, served_call, with_left, with_ready, with_waiting, woken}
 use Rattle.cc_kernel.specs.declared.store.Store.{Store}
 use Rattle.cc_kernel.specs.declared.seat.Whereabouts.{Whereabouts}
@@ -64,6 +65,16 @@ module _ {P : Type 0} where
         drawn = x.drawn + 1;
       }
 
+  -- p goes on, and a call for which nobody waits is pending
+  abbrev pub sent_contents : Contents P → Pid → P → Pid → ℕ → List ℤ → Contents P
+  sent_contents x p process target trans args =
+      record x {
+        seats = set x.seats p.0 (with_ready process Go);
+        pending =
+            x.pending ++ record { number = record { 0 = x.drawn }; target = target; trans = trans; args = args; waiting = Nobody } ∷ [];
+        drawn = x.drawn + 1;
+      }
+
   -- p is over
   abbrev pub left_contents : Contents P → ℕ → ProcessStanding → Contents P
   left_contents x p standing =
@@ -91,6 +102,19 @@ module _ {P : Type 0} where
         taken = if nat_lt x.taken (length x.input) then x.taken + 1 else x.taken;
       }
 
+  -- p took its immediate alternative i
+  abbrev pub chose_contents : Contents P → ℕ → ℕ → Contents P
+  chose_contents x p i = record x { seats = set x.seats p (woken (seat_at x.seats p) (Chose i)) }
+
+  -- whoever waits at `terminate` has ended and serves no call, and no call is pending
+  abbrev pub ended_contents : Meaning → Contents P → Contents P
+  ended_contents m x =
+      record x {
+        seats = map (after_end m x.seats x.pending) (enumerate_from 0 x.seats);
+        pending = [];
+        served = filter (λ call. not (seat_waits m x.seats x.pending call.target.0)) x.served;
+      }
+
   -- the pending call at this index is served by its target, which took it by its alternative i
   abbrev pub accepted_contents : Contents P → ℕ → ℕ → Contents P
   accepted_contents x index i =
@@ -101,28 +125,24 @@ module _ {P : Type 0} where
         served = x.served ++ served_call call ∷ [];
       }
 
-abbrev pub OnlyAccepts : List (ℕ × Alt) → Type 0
-OnlyAccepts [] = Unit {0}
-OnlyAccepts (a ∷ alts) = IsAccept a.1 × OnlyAccepts alts
-
--- a process that stands so waits for no deadline, and takes nothing but calls
+-- a process that stands so waits for no deadline
 abbrev pub IsPlain : ProcessStanding → Type 0
 IsPlain Running = Unit {0}
-IsPlain (AtSelect alts asked) = OnlyAccepts alts
+IsPlain (AtSelect alts asked) = NoDelays alts
 IsPlain (AtDelay deadline) = ⊥
 IsPlain (AtCall call) = Unit {0}
 IsPlain Ended = Unit {0}
 IsPlain (Faulted kind) = Unit {0}
 
--- a caller waits for the answer, without a deadline
-abbrev pub IsAwaited : Waiting → Type 0
-IsAwaited Nobody = ⊥
-IsAwaited (Caller p) = Unit {0}
-IsAwaited (Until p deadline) = ⊥
+-- whoever waits for the answer has no deadline
+abbrev pub IsUntimed : Waiting → Type 0
+IsUntimed Nobody = Unit {0}
+IsUntimed (Caller p) = Unit {0}
+IsUntimed (Until p deadline) = ⊥
 
-abbrev pub AllAwaited : List TransactionCall → Type 0
-AllAwaited [] = Unit {0}
-AllAwaited (call ∷ calls) = IsAwaited call.waiting × AllAwaited calls
+abbrev pub AllUntimed : List TransactionCall → Type 0
+AllUntimed [] = Unit {0}
+AllUntimed (call ∷ calls) = IsUntimed call.waiting × AllUntimed calls
 
 -- the numbers of the calls rise from low on, and stay below high
 abbrev pub Rising : ℕ → List TransactionCall → ℕ → Type 0
@@ -171,4 +191,4 @@ pub record IsState {P : Type 0} (located : P → ℕ → List ℤ → List Grant
   pub input : drop x.taken x.input ≡ s.input
   pub moment : x.moment ≡ s.moment
   pub rising : Rising 0 s.pending s.drawn
-  pub awaited : AllAwaited s.pending
+  pub untimed : AllUntimed s.pending

@@ -1,7 +1,7 @@
 ghost use Rattle.std.specs.Prelude.{◌≡◌, ◌+◌, ◌<◌, ◌≤◌, length, nat_lt, if◌then◌else◌};
 ghost use Rattle.cc_base.specs.declared.names.FaultKind.TheVariants.{TooMany};
-ghost use Rattle.cc_base.specs.declared.request.Grant.TheVariants.{Gone};
-ghost use Rattle.cc_kernel.specs.Store.{called_contents, got_byte, left_contents, made_contents, contents, waited, went_on};
+ghost use Rattle.cc_base.specs.declared.request.Grant.TheVariants.{Go, Gone};
+ghost use Rattle.cc_kernel.specs.Store.{called_contents, got_byte, left_contents, made_contents, contents, sent_contents, waited, went_on};
 ghost use Rattle.cc_kernel.specs.Seats.{seat_at};
 ghost use Rattle.cc_base.specs.Limits.{most_processes};
 ghost use Rattle.cc_rules.specs.State.{is_over};
@@ -85,6 +85,37 @@ pub(crate) fn call<P: Drop>(
         trans,
         args,
         waiting: Waiting::Caller { pid },
+    });
+    store.drawn += 1;
+}
+
+/// The process goes on, and the call, for which nobody waits, is pending where the target is there.
+pub(crate) fn send<P: Drop>(
+    store: &mut Store<P>,
+    pid: Pid,
+    process: P,
+    target: Pid,
+    trans: u32,
+    args: Cells,
+)
+    requires within { pid.0 < length store.old.seats.items }
+    requires room { 0 < store.old.pending.spare }
+    requires few { store.old.drawn < 4294967295 }
+    ensures contents { contents store.new ≡ (if is_over (seat_at store.old.seats.items target.0).standing then went_on (contents store.old) pid.0 process Go else sent_contents (contents store.old) pid process target trans args) }
+    ensures room { store.old.served.spare ≤ store.new.served.spare }
+    ensures calls { length store.new.pending.items ≤ length store.old.pending.items + 1 }
+{
+    let is_there = store.seats.is_there(target);
+    store.seats.put_ready(pid.0 as usize, process, Grant::Go);
+    if !is_there {
+        return;
+    }
+    store.pending.add(TransactionCall {
+        number: CallId(store.drawn),
+        target,
+        trans,
+        args,
+        waiting: Waiting::Nobody,
     });
     store.drawn += 1;
 }

@@ -1,10 +1,13 @@
 ghost use Rattle.std.specs.Prelude.{◌≡◌, [], ◌∷◌, ◌++◌, ◌+◌, ◌<◌, ◌≤◌, length, get_or, not, remove, vec_capacity, vec_len, ◌-◌, OnOk, OnErr, MatchOption, ℕ, false, true};
 ghost use Rattle.std.specs.List.{filter};
 ghost use Rattle.cc_rules.specs.Effects.{is_for};
+ghost use Rattle.cc_kernel.specs.Choice.{seat_waits};
 ghost use Rattle.cc_kernel.specs.Seats.{is_served_by, no_call, no_served, SplitsAt};
 
+use crate::choice::waits_at_terminate;
+use crate::seats::Seats;
 use crate::served::ServedCall;
-use cc_base::{Memory, Pid};
+use cc_base::{Behave, Memory, Pid};
 use cc_rules::TransactionCall;
 use std::alloc::Global;
 use std::marker::Model;
@@ -55,6 +58,13 @@ impl Pending {
         ensures { result.now ≡ self.now.items }
     {
         self.items.as_slice()
+    }
+
+    /// Takes every call out.
+    pub(crate) fn clear(&mut self)
+        ensures { self.new.items ≡ [] }
+    {
+        self.items.clear();
     }
 
     pub(crate) fn len(&self) -> usize
@@ -165,6 +175,31 @@ impl Served {
     {
         keep_unserved(&mut self.items, server);
     }
+}
+
+impl Served {
+    /// Removes every call that is served by a process which waits at `terminate`.
+    pub(crate) fn drop_waiting<B: Behave>(
+        &mut self,
+        code: &B,
+        seats: &Seats<B::Proc>,
+        calls: &[TransactionCall],
+    )
+        ensures { self.new.items ≡ filter (λ call. not (seat_waits (B.means code.now) seats.now.items calls.now call.target.0)) self.old.items }
+    {
+        keep_not_waiting(&mut self.items, code, seats, calls);
+    }
+}
+
+fn keep_not_waiting<B: Behave>(
+    items: &mut Vec<ServedCall>,
+    code: &B,
+    seats: &Seats<B::Proc>,
+    calls: &[TransactionCall],
+)
+    ensures { items.new.items ≡ filter (λ call. not (seat_waits (B.means code.now) seats.now.items calls.now call.target.0)) items.old.items }
+{
+    items.retain(|call| !waits_at_terminate(code, seats, call.target.0 as usize, calls));
 }
 
 fn keep_unserved(items: &mut Vec<ServedCall>, server: Pid)

@@ -1,5 +1,5 @@
 ghost use Rattle.std.specs.Prelude.{◌≡◌, ◌≢◌, ℕ, ◌≤◌, ◌++◌, ◌⊎◌, [], ◌∷◌, false, true, IfOk, IfNone, IfSome, OnErr, OnOk, Some, set, slice_get};
-ghost use Rattle.cc_base.specs.Supported.{IsSupported};
+ghost use Rattle.cc_kernel.specs.Untimed.{HasNoDeadline};
 ghost use Rattle.cc_kernel.specs.Contract.{AllOut, AsksNow, IsOutWith, IsPreparedFor, IsReadyWith, Moment, Nothing, OthersStay, OutsRun, SameOuts, SomeRunning, StepsOn, is_out_in};
 ghost use Rattle.cc_rules.specs.Standing.{IsOver, standing_of};
 ghost use Rattle.cc_rules.specs.Events.{request_at};
@@ -96,7 +96,7 @@ impl<B: Behave> Kernel<B> {
     /// it was.
     pub fn prepare(&mut self, next: Option<&Request>) -> Result<(), Memory>
         requires asks { IfSome next (λ r. AsksNow (B.means self.old.code) self.old.input self.old.journal self.old.outs r.now) }
-        requires supported { IfSome next (λ r. IsSupported r.now) }
+        requires no_deadline { IfSome next (λ r. HasNoDeadline r.now) }
         ensures request { IfSome next.entry (λ r. OnOk result (IsPreparedFor self.new r.now)) }
         ensures time { IfNone next.entry (OnOk result (self.new.prepared ≡ Moment)) }
         ensures rest { self.new ≡ record self.old { prepared = self.new.prepared } }
@@ -108,14 +108,15 @@ impl<B: Behave> Kernel<B> {
         Ok(())
     }
 
-    /// The process asks this, and what comes of it is done. Then every call is taken that can be taken. Gives the bytes of a
+    /// The process asks this, and what comes of it is done. Then the machine settles: every call is taken that can be taken,
+    /// immediate alternatives are where none can, and the collective end comes where it is due. Gives the bytes of a
     /// Print.
     pub fn commit(&mut self, pid: Pid, process: B::Proc, request: Request) -> Bytes
         requires prepared { IsPreparedFor self.old request }
         requires out { IsOutWith (B.means self.old.code) (B.at self.old.code) self.old.input self.old.journal self.old.outs pid.0 process }
         requires asks { request ≡ request_at (B.means self.old.code) (state_after (B.means self.old.code) self.old.input self.old.journal) pid }
         requires going { standing_of (B.means self.old.code) self.old.input self.old.journal self.old.turns ≡ Going }
-        requires supported { IsSupported request }
+        requires no_deadline { HasNoDeadline request }
         ensures code { self.new.code ≡ self.old.code }
         ensures input { self.new.input ≡ self.old.input }
         ensures turns { self.new.turns ≡ self.old.turns }
@@ -169,7 +170,7 @@ impl<B: Behave> Kernel<B> {
         }
     }
 
-    /// How the run stands. It is never idle, since no supported request has a deadline.
+    /// How the run stands. It is never idle, since no request that it performs has a deadline.
     pub fn state(&self) -> Standing
         ensures standing { result ≡ standing_of (B.means self.now.code) self.now.input self.now.journal self.now.turns }
         ensures going { result ≡ Going → SomeRunning (B.means self.now.code) self.now.input self.now.journal }

@@ -1,5 +1,5 @@
 ghost use Rattle.std.specs.Prelude.{◌≡◌, ◌≢◌, MatchOption, ◌+◌, ◌<◌, ◌≤◌, ◌++◌, ℕ, ℤ, List, All, false, length, map, pos, replicate, set};
-ghost use Rattle.cc_base.specs.Supported.{IsSupported};
+ghost use Rattle.cc_kernel.specs.Untimed.{HasNoDeadline};
 ghost use Rattle.cc_kernel.specs.Contract.{Answering, Making, IsEnoughFor, SameOuts};
 ghost use Rattle.cc_kernel.specs.Invariant.{IsReadyFor, prepared_for};
 ghost use Rattle.cc_kernel.specs.Store.{IsLocated, IsState, contents};
@@ -56,7 +56,7 @@ fn change_store<B: Behave>(
     requires calls { 0 < store.old.pending.spare }
     requires seats { 0 < store.old.seats.spare }
     requires few { store.old.drawn < 4294967295 }
-    requires supported { IsSupported request }
+    requires no_deadline { HasNoDeadline request }
     requires enough { IsEnoughFor (prepared_for need) request }
     requires ready { (events : ℕ) × IsReadyFor (B.means code.now) (B.at code.now) store.old events need }
     requires known { All (λ call. call.trans < length (B.means code.now).shapes) store.old.served.items }
@@ -66,6 +66,7 @@ fn change_store<B: Behave>(
     ensures outs { SameOuts (map is_out store.new.seats.items) (set (map is_out store.old.seats.items) pid.0 false) }
     ensures room { store.old.served.spare ≤ store.new.served.spare }
     ensures calls { length store.new.pending.items ≤ length store.old.pending.items + 1 }
+    ensures places { length store.new.seats.items ≤ length store.old.seats.items + 1 }
 {
     match request {
         Request::Print { bytes: _bytes } => asks::go_on(store, pid, process, Grant::Go),
@@ -84,6 +85,11 @@ fn change_store<B: Behave>(
             trans,
             args,
         } => asks::call(store, pid, process, target, trans, args),
+        Request::Send {
+            target,
+            trans,
+            args,
+        } => asks::send(store, pid, process, target, trans, args),
         Request::Select { alts } => asks::select(store, pid, process, alts),
         Request::Reply { value: _value } => {
             let Some(value) = answer(need) else {
@@ -112,7 +118,7 @@ pub(crate) fn perform<B: Behave>(
     requires calls { 0 < store.old.pending.spare }
     requires seats { 0 < store.old.seats.spare }
     requires few { store.old.drawn < 4294967295 }
-    requires supported { IsSupported request }
+    requires no_deadline { HasNoDeadline request }
     requires enough { IsEnoughFor (prepared_for need) request }
     requires ready { (events : ℕ) × IsReadyFor (B.means code.now) (B.at code.now) store.old events need }
     requires known { All (λ call. call.trans < length (B.means code.now).shapes) store.old.served.items }
@@ -122,6 +128,7 @@ pub(crate) fn perform<B: Behave>(
     ensures outs { SameOuts (map is_out store.new.seats.items) (set (map is_out store.old.seats.items) pid.0 false) }
     ensures room { store.old.served.spare ≤ store.new.served.spare }
     ensures calls { length store.new.pending.items ≤ length store.old.pending.items + 1 }
+    ensures places { length store.new.seats.items ≤ length store.old.seats.items + 1 }
     ensures bytes { result ≡ bytes_of request }
 {
     match request {

@@ -1,7 +1,7 @@
 -- A process that is ready asks next what its program says.
 use Rattle.std.proofs.Common.{◌≡◌, ℕ, ◌⊎◌, inl, inr, sym, ap, ◌∙◌, subst, true, false, ℤ, List, [], ◌∷◌, ◌++◌, Bool}
 use Rattle.cc_base.specs.Meaning.{Meaning}
-use Rattle.cc_base.specs.Supported.{AsksSupported, IsSupported}
+use Rattle.cc_kernel.specs.Untimed.{AsksNoDeadline, HasNoDeadline}
 use Rattle.cc_base.specs.declared.request.Grant.{Grant}
 use Rattle.cc_base.specs.declared.request.Request.{Request}
 use Rattle.cc_kernel.specs.Contract.{AllOut, IsReadyWith, SomeRunning}
@@ -44,5 +44,5 @@ module _ {P : Type 0} (m : Meaning) (located : P → ℕ → List ℤ → List G
   pub located-now : Went → located new q.kind q.args q.grants
   located-now went = subst (located new q.kind q.args) (sym ready.grants) went.1
 
-  pub supported-now : AsksSupported m → Went → IsSupported request
-  supported-now served went = subst IsSupported (sym (asked-now went)) (served q.kind q.args q.grants ready.kind ready.proper)
+  pub untimed-now : AsksNoDeadline m → Went → HasNoDeadline request
+  untimed-now served went = subst HasNoDeadline (sym (asked-now went)) (served q.kind q.args q.grants ready.kind ready.proper)

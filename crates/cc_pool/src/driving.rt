@@ -1,7 +1,7 @@
 ghost use Rattle.std.specs.Prelude.{◌≡◌, ◌≤◌, ◌⊎◌, ℕ, List, [], false, OnOk, OnErr, IfOk, IfErr, IsErrOf};
 ghost use Rattle.std.specs.List.{AllPass};
 ghost use Rattle.cc_base.specs.Meaning.{Meaning};
-ghost use Rattle.cc_base.specs.Supported.{AsksSupported, IsSupported};
+ghost use Rattle.cc_kernel.specs.Untimed.{AsksNoDeadline, HasNoDeadline};
 ghost use Rattle.cc_kernel.specs.Contract.{IsOutWith, IsPreparedFor, SomeRunning};
 ghost use Rattle.cc_rules.specs.Standing.{standing_of};
 ghost use Rattle.cc_pool.specs.Driven.{GoesOn, GoesToItsEnd, IsRunOf, NoneOut, OnlyOut, StopsAtTheSink, StopsForMemory, is_untimed};
@@ -37,7 +37,7 @@ fn take_asking<B: Behave>(
     requires going { standing_of (B.means kernel.old.code) kernel.old.input kernel.old.journal kernel.old.turns ≡ Going }
     requires running { SomeRunning (B.means kernel.old.code) kernel.old.input kernel.old.journal }
     requires inside { NoneOut kernel.old.outs }
-    requires supported { AsksSupported (B.means kernel.old.code) }
+    requires no_deadline { AsksNoDeadline (B.means kernel.old.code) }
     ensures code { kernel.new.code ≡ kernel.old.code }
     ensures input { kernel.new.input ≡ kernel.old.input }
     ensures turns { kernel.new.turns ≡ kernel.old.turns }
@@ -46,7 +46,7 @@ fn take_asking<B: Behave>(
     ensures out { IfOk result (λ r. IsOutWith (B.means kernel.old.code) (B.at kernel.old.code) kernel.old.input kernel.old.journal kernel.new.outs r.0.0 r.1) }
     ensures others { IfOk result (λ r. OnlyOut kernel.new.outs r.0.0) }
     ensures prepared { IfOk result (λ r. IsPreparedFor kernel.new r.2) }
-    ensures supported { IfOk result (λ r. IsSupported r.2) }
+    ensures untimed { IfOk result (λ r. HasNoDeadline r.2) }
 {
     let Some((pid, mut process, grant)) = kernel.pick() else {
         unreachable!()
@@ -61,7 +61,7 @@ fn step<B: Behave, K: Sink>(alloc: Global, kernel: &mut Kernel<B>, out: &mut K) 
     requires going { standing_of (B.means kernel.old.code) kernel.old.input kernel.old.journal kernel.old.turns ≡ Going }
     requires running { SomeRunning (B.means kernel.old.code) kernel.old.input kernel.old.journal }
     requires inside { NoneOut kernel.old.outs }
-    requires supported { AsksSupported (B.means kernel.old.code) }
+    requires no_deadline { AsksNoDeadline (B.means kernel.old.code) }
     ensures code { kernel.new.code ≡ kernel.old.code }
     ensures input { kernel.new.input ≡ kernel.old.input }
     ensures turns { kernel.new.turns ≡ kernel.old.turns }
@@ -89,7 +89,7 @@ fn step<B: Behave, K: Sink>(alloc: Global, kernel: &mut Kernel<B>, out: &mut K) 
 fn run_on<B: Behave, K: Sink>(alloc: Global, kernel: &mut Kernel<B>, out: &mut K) -> Stop
     requires new { kernel.old.journal ≡ [] }
     requires inside { NoneOut kernel.old.outs }
-    requires supported { AsksSupported (B.means kernel.old.code) }
+    requires no_deadline { AsksNoDeadline (B.means kernel.old.code) }
     ensures code { kernel.new.code ≡ kernel.old.code }
     ensures input { kernel.new.input ≡ kernel.old.input }
     ensures turns { kernel.new.turns ≡ kernel.old.turns }
@@ -145,7 +145,7 @@ pub fn drive<B: Behave, K: Sink>(
     turns: u32,
     out: K,
 ) -> Driven<K>
-    requires supported { AsksSupported (B.means code.now.value) }
+    requires no_deadline { AsksNoDeadline (B.means code.now.value) }
     ensures run { IsRunOf (B.means code.now.value) input turns result.journal.items result.faults.items result.standing }
     ensures over { result.stop ≡ Stop.Over → GoesToItsEnd (B.means code.now.value) input result.journal.items result.standing (K.held out) (K.held result.out) }
     ensures write { result.stop ≡ Stop.Write → StopsAtTheSink (B.means code.now.value) input result.journal.items (K.held out) (K.held result.out) }

@@ -1,11 +1,12 @@
 use Rattle.std.proofs.Common.{◌∙◌, ap}
 use Rattle.cc_command.proofs.Finishes.{finishes, is-memory, is-write, on-over, same-meaning, stops, wants}
+use Rattle.cc_kernel.proofs.Untimed.{asks-no-deadline}
 use Rattle.cc_source.specs.Early.{early_meaning}
 use Rattle.cc_source.specs.Lawful.{early_supported}
 use Rattle.cc_command.proofs.running.run_program.Goals as goal
 
 pub drive-ran-requires : goal.drive-ran-requires
-drive-ran-requires g c = record { supported = early_supported c.args.program.now.value }
+drive-ran-requires g c = record { no_deadline = asks-no-deadline (early_meaning c.args.program.now.value) (early_supported c.args.program.now.value) }
 
 pub returns-clause-done : goal.returns-clause-done
 returns-clause-done g c =

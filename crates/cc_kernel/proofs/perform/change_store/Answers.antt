@@ -1,15 +1,14 @@
-use Rattle.std.proofs.Common.{refl, ap, ◌∙◌, map}
+use Rattle.std.proofs.Common.{refl, ap, ◌∙◌, map, length}
 use Rattle.std.specs.Prelude.{slice_get}
 use Rattle.std.proofs.lemmas.List.{map-set}
 use Rattle.cc_base.specs.declared.names.FaultKind.TheVariants.{TooMany}
 use Rattle.cc_base.specs.declared.request.Grant.TheVariants.{Go, Byte}
-use Rattle.cc_kernel.proofs.Requests.{answer-made, outs-left, start-made, state-asks-call, state-asks-create, state-asks-select, outs-call, outs-create, same-outs}
+use Rattle.cc_kernel.proofs.Requests.{answer-made, outs-left, start-made, state-asks-call, state-asks-create, state-asks-select, state-asks-send, outs-call, outs-create, outs-send, places-create, places-left, same-outs}
 use Rattle.cc_kernel.proofs.Simulates.{state-get, state-go, state-leave}
 use Rattle.cc_kernel.specs.Store.{contents}
 use Rattle.cc_kernel.specs.Contract.{is_out_in}
 use Rattle.cc_kernel.specs.Seats.{is_out, with_ready, with_waiting}
 use Rattle.cc_rules.specs.declared.process.ProcessStanding.TheVariants.{AtSelect, Ended, Faulted}
-use Rattle.cc_kernel.proofs.Requests.{only-accepts}
 use Rattle.cc_kernel.proofs.perform.change_store.Goals as goal
 
 pub returns-in-Print-clause-state : goal.returns-in-Print-clause-state
@@ -52,11 +51,20 @@ pub returns-in-Call-clause-outs : goal.returns-in-Call-clause-outs
 returns-in-Call-clause-outs g c =
     same-outs _ _ (ap (λ x. map is_out x.seats) c.call.ensures.contents ∙ outs-call (contents c.args.store.now) c.args.pid c.args.process c.in-Call.target c.in-Call.trans c.in-Call.args _)
 
+pub returns-in-Send-clause-state : goal.returns-in-Send-clause-state
+returns-in-Send-clause-state g c s k a =
+    rw (c.in-Send.is, c.send.ensures.contents)
+    (state-asks-send (g.B.Behave.means c.args.code.now) (g.B.Behave.at c.args.code.now) s (contents c.args.store.now) c.args.pid c.args.process c.in-Send.target c.in-Send.trans c.in-Send.args k a)
+
+pub returns-in-Send-clause-outs : goal.returns-in-Send-clause-outs
+returns-in-Send-clause-outs g c =
+    same-outs _ _ (ap (λ x. map is_out x.seats) c.send.ensures.contents ∙ outs-send (contents c.args.store.now) c.args.pid c.args.process c.in-Send.target c.in-Send.trans c.in-Send.args _)
+
 pub returns-in-Select-clause-state : goal.returns-in-Select-clause-state
 returns-in-Select-clause-state g c s k a =
-    let one = rw c.in-Select.is at c.requires.supported in
+    let untimed = rw c.in-Select.is at c.requires.no_deadline in
     rw (c.in-Select.is, c.select.ensures.contents)
-    (state-asks-select (g.B.Behave.means c.args.code.now) (g.B.Behave.at c.args.code.now) s (contents c.args.store.now) c.args.pid.0 c.args.process c.in-Select.alts k (only-accepts c.in-Select.alts one) a)
+    (state-asks-select (g.B.Behave.means c.args.code.now) (g.B.Behave.at c.args.code.now) s (contents c.args.store.now) c.args.pid.0 c.args.process c.in-Select.alts k untimed a)
 
 pub returns-in-Select-clause-outs : goal.returns-in-Select-clause-outs
 returns-in-Select-clause-outs g c =
@@ -95,3 +103,13 @@ returns-in-Fault-clause-state g c s k a =
 pub returns-in-Fault-clause-outs : goal.returns-in-Fault-clause-outs
 returns-in-Fault-clause-outs g c =
     same-outs _ _ (ap (λ x. map is_out x.seats) c.leave-in-Fault.ensures.contents ∙ outs-left (contents c.args.store.now) c.args.pid.0 (Faulted c.in-Fault.kind))
+
+pub returns-in-Some-clause-places : goal.returns-in-Some-clause-places
+returns-in-Some-clause-places g c =
+    rw (ap (λ x. length x.seats) c.create.ensures.contents) (places-create (contents c.args.store.now) c.args.pid.0 c.args.process c.in-Some.new (Faulted TooMany) _)
+
+pub returns-in-Done-clause-places : goal.returns-in-Done-clause-places
+returns-in-Done-clause-places g c = rw (ap (λ x. length x.seats) c.leave.ensures.contents) (places-left (contents c.args.store.now) c.args.pid.0 Ended)
+
+pub returns-in-Fault-clause-places : goal.returns-in-Fault-clause-places
+returns-in-Fault-clause-places g c = rw (ap (λ x. length x.seats) c.leave-in-Fault.ensures.contents) (places-left (contents c.args.store.now) c.args.pid.0 (Faulted c.in-Fault.kind))

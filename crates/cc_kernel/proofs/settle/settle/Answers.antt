@@ -1,29 +1,29 @@
-use Rattle.std.proofs.Common.{get_or, ap, ◌∙◌, arith, map}
-use Rattle.cc_kernel.proofs.Outs.{outs-woken}
-use Rattle.cc_kernel.proofs.Settling.{goes-more}
+use Rattle.std.proofs.Common.{ap, sym, ◌∙◌, map}
+use Rattle.cc_kernel.proofs.Ending.{outs-ended, settles-calm, settles-ended}
+use Rattle.cc_kernel.specs.Seats.{is_out}
 use Rattle.cc_kernel.specs.Store.{contents}
-use Rattle.cc_kernel.specs.Seats.{is_out, no_call}
-use Rattle.cc_base.specs.declared.request.Grant.TheVariants.{Took}
+use Rattle.cc_rules.specs.Runs.{after}
 use Rattle.cc_kernel.proofs.settle.settle.Goals as goal
 
-pub loop-at-preserved : goal.loop-at-preserved
-loop-at-preserved g c =
-    let inv = c.loop-at.invariant in
-    let x = contents c.loop-at.store in
-    let call = get_or x.pending c.in-Some.at no_call in
-    let found = rw c.as_slice.ensures at c.in-Some.ensures in
-    let fewer = c.accept.ensures.fewer in
-    record {
-      events = (let e = inv.events in let s = c.add.ensures.spare in omega (arith, fewer, e, s));
-      room = (let e = inv.room in let s = c.accept.ensures.room in omega (arith, fewer, e, s));
-      outs =
-          ap (λ y. map is_out y.seats) c.accept.ensures.contents
-          ∙ outs-woken x.seats call.target.0 (Took c.in-Some.alt call.args)
-          ∙ inv.outs;
-      input = ap (λ y. y.input) c.accept.ensures.contents ∙ inv.input;
-      drawn = ap (λ y. y.drawn) c.accept.ensures.contents ∙ inv.drawn;
-      goes_on = λ s k.
-          rw (c.accept.ensures.contents, c.add.ensures.items, c.accept.ensures.target, c.accept.ensures.number)
-          (goes-more (g.B.Behave.means c.args.code.now) (g.B.Behave.at c.args.code.now) s c.args.journal.now.items c.loop-at.journal.items x
-          c.in-Some.at c.in-Some.alt (inv.goes_on s k) found.0 found.1);
-    }
+pub returns-then-is_due-clause-settles : goal.returns-then-is_due-clause-settles
+returns-then-is_due-clause-settles g c = λ s k.
+    let m = g.B.Behave.means c.args.code.now in
+    let due = rw c.as_slice.ensures at (sym c.is_due.ensures ∙ c.if-is_due.true) in
+    rw (c.add.ensures.items, c.end_all.ensures.contents)
+    (settles-ended m (g.B.Behave.at c.args.code.now) s c.args.journal.now.items c.take_all.new.journal.items (contents c.take_all.new.store)
+    (c.take_all.ensures.goes_on s k) due)
+
+pub returns-then-is_due-clause-outs : goal.returns-then-is_due-clause-outs
+returns-then-is_due-clause-outs g c = λ s k.
+    let m = g.B.Behave.means c.args.code.now in
+    let went = c.take_all.ensures.goes_on s k in
+    ap (λ y. map is_out y.seats) c.end_all.ensures.contents
+    ∙ outs-ended m (g.B.Behave.at c.args.code.now) (after m s went.more) (contents c.take_all.new.store) went.state
+    ∙ c.take_all.ensures.outs
+
+pub returns-else-is_due-clause-settles : goal.returns-else-is_due-clause-settles
+returns-else-is_due-clause-settles g c = λ s k.
+    let m = g.B.Behave.means c.args.code.now in
+    let due = rw c.as_slice.ensures at (sym c.is_due.ensures ∙ c.if-is_due.false) in
+    settles-calm m (g.B.Behave.at c.args.code.now) s c.args.journal.now.items c.take_all.new.journal.items (contents c.take_all.new.store)
+    (c.take_all.ensures.goes_on s k) c.take_all.ensures.calm due

@@ -1,4 +1,4 @@
-use Rattle.cc_pool.proofs.Asking.{asked-now, located-now, none-waits, supported-now}
+use Rattle.cc_pool.proofs.Asking.{asked-now, located-now, none-waits, untimed-now}
 use Rattle.cc_pool.proofs.driving.take_asking.Goals as goal
 
 pub unreachable-requires : goal.unreachable-requires
@@ -17,11 +17,11 @@ prepare-requires-clause-asks g c =
           (c.in_ok-request.ensures k.code _ _ c.in-Some.ensures.ready.front c.in-Some.ensures.ready.there c.in-Some.ensures.ready.is_next)),
     )
 
-pub prepare-requires-clause-supported : goal.prepare-requires-clause-supported
-prepare-requires-clause-supported g c =
+pub prepare-requires-clause-no_deadline : goal.prepare-requires-clause-no_deadline
+prepare-requires-clause-no_deadline g c =
     let k = c.args.kernel.now in
-    supported-now (g.B.Behave.means k.code) (g.B.Behave.at k.code) k.input k.journal c.in-Some.pid.0 c.in-Some.process c.go.new.this c.in-Some.grant c.in_ok-request.request
-    c.in-Some.ensures.ready c.requires.supported
+    untimed-now (g.B.Behave.means k.code) (g.B.Behave.at k.code) k.input k.journal c.in-Some.pid.0 c.in-Some.process c.go.new.this c.in-Some.grant c.in_ok-request.request
+    c.in-Some.ensures.ready c.requires.no_deadline
     (c.in_ok-request.ensures k.code _ _ c.in-Some.ensures.ready.front c.in-Some.ensures.ready.there c.in-Some.ensures.ready.is_next)
 
 pub returns-clause-out : goal.returns-clause-out
@@ -33,9 +33,9 @@ returns-clause-out g c =
           (c.in_ok-request.ensures k.code _ _ c.in-Some.ensures.ready.front c.in-Some.ensures.ready.there c.in-Some.ensures.ready.is_next),
     )
 
-pub returns-clause-supported : goal.returns-clause-supported
-returns-clause-supported g c =
+pub returns-clause-untimed : goal.returns-clause-untimed
+returns-clause-untimed g c =
     let k = c.args.kernel.now in
-    supported-now (g.B.Behave.means k.code) (g.B.Behave.at k.code) k.input k.journal c.in-Some.pid.0 c.in-Some.process c.go.new.this c.in-Some.grant c.in_ok-request.request
-    c.in-Some.ensures.ready c.requires.supported
+    untimed-now (g.B.Behave.means k.code) (g.B.Behave.at k.code) k.input k.journal c.in-Some.pid.0 c.in-Some.process c.go.new.this c.in-Some.grant c.in_ok-request.request
+    c.in-Some.ensures.ready c.requires.no_deadline
     (c.in_ok-request.ensures k.code _ _ c.in-Some.ensures.ready.front c.in-Some.ensures.ready.there c.in-Some.ensures.ready.is_next)

@@ -1,4 +1,5 @@
-use Rattle.std.proofs.Common.{arith, ℕ, ◌<◌, List, length, subst, ◌∙◌}
+use Rattle.std.proofs.Common.{arith, ℕ, ◌<◌, List, length, subst, ap, ◌∙◌}
+use Rattle.std.proofs.lemmas.List.Sums.{count_by-le-length}
 use Rattle.cc_kernel.proofs.Keeping.{all-served, kept-commit}
 use Rattle.cc_kernel.proofs.Known.{known-served}
 use Rattle.cc_kernel.proofs.Others.{others-stay, outs-run, prints-more, steps-on}
@@ -6,7 +7,11 @@ use Rattle.cc_kernel.proofs.Outs.{out-at}
 use Rattle.cc_kernel.proofs.Seated.{Seated-at, out-running}
 use Rattle.cc_kernel.proofs.Stands.{below-allowed, going-left}
 use Rattle.cc_kernel.specs.Store.{contents}
-use Rattle.cc_kernel.specs.Seats.{seat_at}
+use Rattle.cc_kernel.proofs.Readying.{has-room}
+use Rattle.cc_kernel.specs.Contract.{is_out_in}
+use Rattle.cc_kernel.specs.Seats.{is_at_select, seat_at}
+use Rattle.cc_kernel.specs.declared.seat.Seat.{Seat}
+use Rattle.cc_rules.specs.Effects.{effect}
 use Rattle.cc_rules.specs.Runs.{IsRun, state_after, turns}
 use Rattle.cc_rules.specs.State.{process_at}
 use Rattle.cc_kernel.proofs.kernel.Kernel.commit.Goals as goal
@@ -23,6 +28,37 @@ perform-bytes-requires-clause-known g c =
     (state_after (g.B.Behave.means k.code.value) k.store.input k.journal.items) (contents k.store) c.self.invariant.state
     (known-served (g.B.Behave.means k.code.value)
     (g.met.B.Behave.well_formed k.code.value) k.store.input k.journal.items c.self.invariant.runs))
+
+-- what is kept is the state after what is asked
+pub settle-requires-clause-few : goal.settle-requires-clause-few
+settle-requires-clause-few g c =
+    let k = c.self.inside in
+    let s = state_after (g.B.Behave.means k.code.value) k.store.input k.journal.items in
+    let out = rw (← c.self.view_is) at c.requires.out in
+    let served = rw c.deref.ensures at c.perform-bytes.ensures.state in
+    (served s c.self.invariant.state out.1).few
+
+pub settle-requires-clause-events : goal.settle-requires-clause-events
+settle-requires-clause-events g c =
+    let k = c.self.inside in
+    let prepared = rw (← c.self.view_is) at c.requires.prepared in
+    let room = has-room (g.B.Behave.means k.code.value) (g.B.Behave.at k.code.value) k.store k.journal.spare k.need c.args.request prepared c.self.invariant.ready in
+    let n = count_by-le-length (λ (seat : Seat g.row.B-Proc.Denot). is_at_select seat.standing) c.perform-bytes.new.store.seats.items in
+    let a = c.add.ensures.spare in
+    let p = c.perform-bytes.ensures.places in
+    let r = room.0 in
+    omega (arith, n, a, p, r)
+
+pub returns-clause-outs : goal.returns-clause-outs
+returns-clause-outs g c p =
+    let k = c.self.inside in
+    let s = state_after (g.B.Behave.means k.code.value) k.store.input k.journal.items in
+    let out = rw (← c.self.view_is) at c.requires.out in
+    let served = rw c.deref.ensures at c.perform-bytes.ensures.state in
+    let settled = rw c.deref-2.ensures at c.settle.ensures.outs in
+    let asked = effect (g.B.Behave.means k.code.value) s c.args.pid c.args.request in
+    rw (← c.self.view_is)
+    (ap (λ xs. is_out_in xs p) (settled asked (served s c.self.invariant.state out.1)) ∙ c.perform-bytes.ensures.outs p)
 
 pub invariant_of-self : goal.invariant_of-self
 invariant_of-self g c =

@@ -28,8 +28,11 @@ need_of-requires-clause-known g c =
     (known-served (g.B.Behave.means k.code.value)
     (g.met.B.Behave.well_formed k.code.value) k.store.input k.journal.items c.self.invariant.runs))
 
-pub make_room-requires : goal.make_room-requires
-make_room-requires g c =
+pub make_room-requires-clause-few : goal.make_room-requires-clause-few
+make_room-requires-clause-few g c = c.self.invariant.state.few
+
+pub make_room-requires-clause-pending : goal.make_room-requires-clause-pending
+make_room-requires-clause-pending g c =
     let k = c.self.inside in
     few-pending (g.B.Behave.means k.code.value) (g.B.Behave.at k.code.value) (state_after (g.B.Behave.means k.code.value) k.store.input k.journal.items) (contents k.store) c.self.invariant.state
 

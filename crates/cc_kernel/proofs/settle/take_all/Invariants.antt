@@ -1,14 +1,16 @@
-use Rattle.std.proofs.Common.{◌≡◌, ◌≤◌, length, map}
+use Rattle.std.proofs.Common.{◌≡◌, ◌+◌, ◌≤◌, length, map}
+use Rattle.cc_base.specs.Limits.{most_processes}
 use Rattle.cc_kernel.specs.Store.{IsState, contents}
-use Rattle.cc_kernel.specs.Seats.{is_out}
+use Rattle.cc_kernel.specs.Seats.{count_selecting, is_out}
 use Rattle.cc_kernel.specs.Settles.{GoesOn}
 use Rattle.cc_rules.specs.State.{State}
-use Rattle.cc_kernel.proofs.settle.settle.Given as goal
+use Rattle.cc_kernel.proofs.settle.take_all.Given as goal
 
-abbrev pub invariant-loop-at : goal.invariant-loop-at
-invariant-loop-at g l =
+abbrev pub invariant-loop-event : goal.invariant-loop-event
+invariant-loop-event g l =
     record {
-      events : length l.store.pending.items ≤ l.journal.spare;
+      few : length l.store.seats.items ≤ most_processes;
+      events : count_selecting l.store.seats.items + 1 ≤ l.journal.spare;
       room : length l.store.pending.items ≤ l.store.served.spare;
       outs : map is_out l.store.seats.items ≡ map is_out l.initial.store.seats.items;
       input : l.store.input ≡ l.initial.store.input;
@@ -19,5 +21,5 @@ invariant-loop-at g l =
           → GoesOn (g.B.Behave.means l.code) (g.B.Behave.at l.code) s l.initial.journal.items l.journal.items (contents l.store);
     }
 
-abbrev pub decreases-loop-at : goal.decreases-loop-at
-decreases-loop-at g l = length l.store.pending.items
+abbrev pub decreases-loop-event : goal.decreases-loop-event
+decreases-loop-event g l = count_selecting l.store.seats.items

@@ -1,0 +1,248 @@
+-- The collective end: what is kept follows the machine, and nothing comes after it.
+use Rattle.std.proofs.Common.{◌≡◌, inl, inr, ℕ, zero, suc, ◌+◌, ◌<◌, ◌≤◌, ℤ, Bool, true, false, ◌&&◌, ◌||◌, cond, not, List, [], ◌∷◌, ◌++◌, length, get_or, map, refl, sym, ap, ◌∙◌, arith, nat_eq, append_assoc, set}
+use Rattle.std.specs.Prelude.{if◌then◌else◌, Some}
+use Rattle.std.specs.List.{enumerate_from, filter, list_all, list_any}
+use Rattle.std.proofs.lemmas.Bool.{and_parts, cases_lt, eqb-true}
+use Rattle.std.proofs.lemmas.List.{get_or_past}
+use Rattle.std.proofs.lemmas.List.Elements.{All-push}
+use Rattle.cc_base.specs.Meaning.{Meaning}
+use Rattle.cc_base.specs.declared.request.Grant.{Grant}
+use Rattle.cc_kernel.proofs.Plain.{false-from, not-unsettled, over-quiet}
+use Rattle.cc_kernel.proofs.Seated.{Seated-length, out-running, plain-at, same-standing}
+use Rattle.cc_kernel.specs.Choice.{after_end, due_in, seat_may_end, seat_waits, waits_so}
+use Rattle.cc_kernel.specs.Settles.{GoesOn, IsCalm, Settles}
+use Rattle.cc_kernel.specs.Store.{Contents, IsPlain, IsState, SeatFits, Seated, ended_contents}
+use Rattle.cc_kernel.specs.Seats.{is_out, is_served_by, seat_at, served_call, vacant, with_left}
+use Rattle.cc_kernel.specs.declared.seat.Seat.{Seat}
+use Rattle.cc_kernel.specs.declared.served.ServedCall.{ServedCall}
+use Rattle.cc_kernel.proofs.Places.{enumerated-length}
+use Rattle.cc_kernel.proofs.Settling.{any-time}
+use Rattle.cc_kernel.proofs.Walking.{walked, walked-at, walked-keep, walked-set}
+use Rattle.cc_rules.proofs.Bools.{both-ways}
+use Rattle.cc_rules.proofs.EndIsLast.{ended-over}
+use Rattle.cc_rules.proofs.GoOn.{IsRunFrom-append, after-append}
+use Rattle.cc_rules.specs.Choice.{every_process, some_process}
+use Rattle.cc_rules.proofs.CollectiveEnd.{length-all_ended, over_or_waits}
+use Rattle.cc_rules.proofs.NextStays.{all_ended-at, ended_at_terminate}
+use Rattle.cc_rules.specs.Ends.{is_due, is_unsettled, waits_at_terminate}
+use Rattle.cc_rules.specs.Events.{all_ended, is_legal, next}
+use Rattle.cc_rules.specs.Runs.{after, is_settling}
+use Rattle.cc_rules.specs.State.{Process, State, is_over, is_running, nobody, process_at}
+use Rattle.cc_rules.specs.declared.event.Event.{Event}
+use Rattle.cc_rules.specs.declared.event.Event.TheVariants.{End}
+use Rattle.cc_rules.specs.declared.process.ProcessStanding.{ProcessStanding}
+use Rattle.cc_rules.specs.declared.process.ProcessStanding.TheVariants.{Running, AtSelect, AtDelay, AtCall, Ended, Faulted}
+use Rattle.cc_rules.specs.declared.process.TransactionCall.{TransactionCall}
+
+every-same : {X Y : Type 0} (f g : ℕ → Bool) → ((p : ℕ) → f p ≡ g p) → (n : ℕ) (xs : List X) (ys : List Y) → length xs ≡ length ys → list_all (λ e. f e.0) (enumerate_from n xs) ≡ list_all (λ e. g e.0) (enumerate_from n ys)
+every-same f g h n [] [] l = refl
+every-same f g h n [] (y ∷ ys) l = absurd (omega (arith, l))
+every-same f g h n (x ∷ xs) [] l = absurd (omega (arith, l))
+every-same f g h n (x ∷ xs) (y ∷ ys) l = rw (h n, every-same f g h (n + 1) xs ys (omega (arith, l))) refl
+
+some-same : {X Y : Type 0} (f g : ℕ → Bool) → ((p : ℕ) → f p ≡ g p) → (n : ℕ) (xs : List X) (ys : List Y) → length xs ≡ length ys → list_any (λ e. f e.0) (enumerate_from n xs) ≡ list_any (λ e. g e.0) (enumerate_from n ys)
+some-same f g h n [] [] l = refl
+some-same f g h n [] (y ∷ ys) l = absurd (omega (arith, l))
+some-same f g h n (x ∷ xs) [] l = absurd (omega (arith, l))
+some-same f g h n (x ∷ xs) (y ∷ ys) l = rw (h n, some-same f g h (n + 1) xs ys (omega (arith, l))) refl
+
+-- one seat of a list that is changed in place
+module _ {P : Type 0} (m : Meaning) (calls : List TransactionCall) (seats : List (Seat P)) where
+  pub end-step :
+      (now : List (Seat P)) (i : ℕ)
+      → i < length seats
+      → now ≡ walked vacant (after_end m seats calls) 0 i seats
+      → (if seat_waits m now calls i then set now i (with_left Ended) else now) ≡ walked vacant (after_end m seats calls) 0 (i + 1) seats
+  end-step now i lt same =
+      ap (λ xs. if seat_waits m xs calls i then set xs i (with_left Ended) else xs) same
+      ∙ ap (λ (st : Seat P). if waits_so m i st.standing calls then set (walked vacant (after_end m seats calls) 0 i seats) i (with_left Ended) else walked vacant (after_end m seats calls) 0 i seats) (walked-at vacant (after_end m seats calls) i seats lt)
+      ∙ step (seat_waits m seats calls i) refl
+    where
+      step :
+          (b : Bool)
+          → seat_waits m seats calls i ≡ b
+          → (if b then set (walked vacant (after_end m seats calls) 0 i seats) i (with_left Ended) else walked vacant (after_end m seats calls) 0 i seats)
+          ≡ walked vacant (after_end m seats calls) 0 (i + 1) seats
+      step true e =
+          ap (set (walked vacant (after_end m seats calls) 0 i seats) i) (sym (ap (λ b. if b then with_left Ended else seat_at seats i) e))
+          ∙ walked-set vacant (after_end m seats calls) i seats lt
+      step false e = walked-keep vacant (after_end m seats calls) i seats lt (ap (λ b. if b then with_left Ended else seat_at seats i) e)
+
+module _ {P : Type 0} (m : Meaning) (located : P → ℕ → List ℤ → List Grant → Type 0) where
+  -- who waits at `terminate`, as the seats tell it
+  waits-same : (s : State) (x : Contents P) (p : ℕ) → IsState located s x → seat_waits m x.seats x.pending p ≡ waits_at_terminate m s p
+  waits-same s x p k =
+      ap (λ st. waits_so m p st x.pending) (same-standing located s.processes x.seats p k.seated)
+      ∙ ap (waits_so m p (process_at s.processes p).standing) k.pending
+
+  may-end-same : (s : State) (x : Contents P) (p : ℕ) → IsState located s x → seat_may_end m x.seats x.pending p ≡ over_or_waits m s p
+  may-end-same s x p k =
+      ap (λ st. is_over st || seat_waits m x.seats x.pending p) (same-standing located s.processes x.seats p k.seated)
+      ∙ ap (λ b. is_over (process_at s.processes p).standing || b) (waits-same s x p k)
+
+  -- whether the collective end is due, as the seats tell it
+  pub due-same : (s : State) (x : Contents P) → IsState located s x → due_in m x.seats x.pending ≡ is_due m s
+  due-same s x k =
+      let l = sym (Seated-length located s.processes x.seats k.seated) in
+      ap (λ b. b && list_any (λ e. seat_waits m x.seats x.pending e.0) (enumerate_from 0 x.seats))
+      (every-same (seat_may_end m x.seats x.pending) (over_or_waits m s) (λ p. may-end-same s x p k) 0 x.seats s.processes l)
+      ∙ ap (λ b. every_process (over_or_waits m s) s && b)
+      (some-same (seat_waits m x.seats x.pending) (waits_at_terminate m s) (λ p. waits-same s x p k) 0 x.seats s.processes l)
+
+  ended-fits : (q : Process) (seat : Seat P) (b : Bool) → SeatFits located q seat → SeatFits located (if b then record q { standing = Ended; serving = [] } else q) (if b then with_left Ended else seat)
+  ended-fits q seat true h = record { standing = refl; whereabouts = refl; plain = tt }
+  ended-fits q seat false h = h
+
+  ended-seated :
+      (w : ℕ → Bool) (v : ℕ → Bool) (same : (p : ℕ) → v p ≡ w p)
+      (n : ℕ) (qs : List Process) (seats : List (Seat P))
+      → Seated located qs seats
+      → Seated located
+      (map (λ e. if w e.0 then record e.1 { standing = Ended; serving = [] } else e.1) (enumerate_from n qs))
+      (map (λ e. if v e.0 then with_left Ended else e.1) (enumerate_from n seats))
+  ended-seated w v same n [] [] h = tt
+  ended-seated w v same n (q ∷ qs) (seat ∷ seats) h = (rw same (ended-fits q seat (w n) h.0), ended-seated w v same (n + 1) qs seats h.1)
+  ended-seated w v same n [] (seat ∷ seats) h = absurd h
+  ended-seated w v same n (q ∷ qs) [] h = absurd h
+
+  -- who waits at `terminate` is not out
+  ended-outs :
+      (v : ℕ → Bool) (n : ℕ) (qs : List Process) (seats : List (Seat P))
+      → Seated located qs seats
+      → ((i : ℕ) → v (n + i) ≡ true → is_running (seat_at seats i).standing ≡ false)
+      → map is_out (map (λ e. if v e.0 then with_left Ended else e.1) (enumerate_from n seats)) ≡ map is_out seats
+  ended-outs v n [] [] h w = refl
+  ended-outs v n (q ∷ qs) (seat ∷ seats) h w =
+      let here : n + 0 ≡ n = omega arith in
+      let F : List Bool → List Bool = λ bs. is_out seat ∷ bs in
+      ap (λ b. b ∷ map is_out (map (λ e. if v e.0 then with_left Ended else e.1) (enumerate_from (n + 1) seats)))
+      (same-out q seat (v n) h.0 (λ e. w 0 (ap v here ∙ e)))
+      ∙ ap F (ended-outs v (n + 1) qs seats h.1 (λ i e. w (suc i) (let there : n + suc i ≡ n + 1 + i = omega arith in ap v there ∙ e)))
+    where
+      same-out : (q : Process) (seat : Seat P) (b : Bool) → SeatFits located q seat → (b ≡ true → is_running seat.standing ≡ false) → is_out (if b then with_left Ended else seat) ≡ is_out seat
+      same-out q seat true h w =
+          sym (false-from (is_out seat) (λ out. both-ways (is_running q.standing) (out-running located q seat h out) (ap is_running (sym h.standing) ∙ w refl)))
+      same-out q seat false h w = refl
+  ended-outs v n [] (seat ∷ seats) h w = absurd h
+  ended-outs v n (q ∷ qs) [] h w = absurd h
+
+  waiting-runs-not : (p : ℕ) (x : ProcessStanding) (calls : List TransactionCall) → waits_so m p x calls ≡ true → is_running x ≡ false
+  waiting-runs-not p Running calls h = cc
+  waiting-runs-not p (AtSelect alts asked) calls h = refl
+  waiting-runs-not p (AtDelay deadline) calls h = refl
+  waiting-runs-not p (AtCall call) calls h = refl
+  waiting-runs-not p Ended calls h = cc
+  waiting-runs-not p (Faulted kind) calls h = cc
+
+  pub outs-ended : (s : State) (x : Contents P) → IsState located s x → map is_out (ended_contents m x).seats ≡ map is_out x.seats
+  outs-ended s x k =
+      ended-outs (seat_waits m x.seats x.pending) 0 s.processes x.seats k.seated
+      (λ i e. let here : 0 + i ≡ i = omega arith in waiting-runs-not i (seat_at x.seats i).standing x.pending (ap (seat_waits m x.seats x.pending) (sym here) ∙ e))
+
+  if-nil : {A B : Type 0} (f : A → B) (b : Bool) (xs : List A) → (if b then [] else map f xs) ≡ map f (if b then [] else xs)
+  if-nil f true xs = refl
+  if-nil f false xs = refl
+
+  serving-if : (q : Process) (b : Bool) → (if b then record q { standing = Ended; serving = [] } else q).serving ≡ (if b then [] else q.serving)
+  serving-if q true = refl
+  serving-if q false = refl
+
+  nil-either : {A : Type 0} (b : Bool) (xs : List A) → (if b then xs else xs) ≡ xs
+  nil-either true xs = refl
+  nil-either false xs = refl
+
+  -- what each serves after the collective end
+  ended-serving : (s : State) (i : ℕ) → (process_at (all_ended m s).processes i).serving ≡ (if waits_at_terminate m s i then [] else (process_at s.processes i).serving)
+  ended-serving s i =
+      elim (cases_lt i (length s.processes)) [
+        | inl lt ↦ ap (λ (q : Process). q.serving) (all_ended-at m s i lt) ∙ serving-if (process_at s.processes i) (waits_at_terminate m s i)
+        | inr past ↦
+            ap (λ (q : Process). q.serving) (get_or_past (all_ended m s).processes i nobody (let same = length-all_ended m s in omega arith))
+            ∙ sym (ap (λ (q : Process). if waits_at_terminate m s i then [] else q.serving) (get_or_past s.processes i nobody past) ∙ nil-either (waits_at_terminate m s i) [])
+      ]
+
+  kept-one : (call : ServedCall) (b c d : Bool) (xs ys : List ServedCall) → (c ≡ true → b ≡ d) → xs ≡ (if d then [] else ys) → cond (not b && c) (call ∷ xs) xs ≡ (if d then [] else cond c (call ∷ ys) ys)
+  kept-one call true true true xs ys e h = h
+  kept-one call true true false xs ys e h = absurd (let f : true ≡ false = e refl in cc)
+  kept-one call false true true xs ys e h = absurd (let f : false ≡ true = e refl in cc)
+  kept-one call false true false xs ys e h = ap (λ zs. call ∷ zs) h
+  kept-one call true false d xs ys e h = h
+  kept-one call false false d xs ys e h = h
+
+  filter-twice : (i : ℕ) (call : ServedCall) (b c : Bool) (xs : List ServedCall) → is_served_by i call ≡ c → filter (is_served_by i) (cond (not b) (call ∷ xs) xs) ≡ cond (not b && c) (call ∷ filter (is_served_by i) xs) (filter (is_served_by i) xs)
+  filter-twice i call true c xs e = refl
+  filter-twice i call false c xs e = ap (λ d. cond d (call ∷ filter (is_served_by i) xs) (filter (is_served_by i) xs)) e
+
+  kept-served : (w : ℕ → Bool) (i : ℕ) (calls : List ServedCall) → filter (is_served_by i) (filter (λ call. not (w call.target.0)) calls) ≡ (if w i then [] else filter (is_served_by i) calls)
+  kept-served w i [] = sym (nil-either (w i) [])
+  kept-served w i (call ∷ calls) =
+      filter-twice i call (w call.target.0) (is_served_by i call) (filter (λ other. not (w other.target.0)) calls) refl
+      ∙ kept-one call (w call.target.0) (is_served_by i call) (w i)
+      (filter (is_served_by i) (filter (λ other. not (w other.target.0)) calls))
+      (filter (is_served_by i) calls)
+      (λ e. ap w (eqb-true call.target.0 i e))
+      (kept-served w i calls)
+
+  length-map' : (f : ℕ × Seat P → Seat P) (xs : List (ℕ × Seat P)) → length (map f xs) ≡ length xs
+  length-map' f [] = refl
+  length-map' f (x ∷ xs) = ap suc (length-map' f xs)
+
+  -- the collective end comes
+  state-ended : (s : State) (x : Contents P) → IsState located s x → IsState located (all_ended m s) (ended_contents m x)
+  state-ended s x k =
+      record {
+        seated = ended-seated (waits_at_terminate m s) (seat_waits m x.seats x.pending) (λ p. waits-same s x p k) 0 s.processes x.seats k.seated;
+        few = rw (length-map' (after_end m x.seats x.pending) (enumerate_from 0 x.seats), enumerated-length vacant 0 x.seats) k.few;
+        pending = refl;
+        served = λ i.
+            kept-served (seat_waits m x.seats x.pending) i x.served
+            ∙ ap (λ b. if b then [] else filter (is_served_by i) x.served) (waits-same s x i k)
+            ∙ ap (λ calls. if waits_at_terminate m s i then [] else calls) (k.served i)
+            ∙ if-nil served_call (waits_at_terminate m s i) (process_at s.processes i).serving
+            ∙ ap (map served_call) (sym (ended-serving s i));
+        drawn = k.drawn;
+        input = k.input;
+        moment = k.moment;
+        rising = omega arith;
+        untimed = tt;
+      }
+
+  -- the machine has settled by the collective end
+  pub settles-ended :
+      (first : State) (before events : List Event) (x : Contents P)
+      → GoesOn m located first before events x
+      → due_in m x.seats x.pending ≡ true
+      → Settles m located first before (events ++ End ∷ []) (ended_contents m x)
+  settles-ended first before events x g h =
+      let s = after m first g.more in
+      let due : is_due m s ≡ true = sym (due-same s x g.state) ∙ h in
+      let ended : IsState located (next m s End) (ended_contents m x) = any-time m located (all_ended m s) (ended_contents m x) false (state-ended s x g.state) in
+      record {
+        goes_on =
+            record {
+              more = g.more ++ End ∷ [];
+              journal = ap (λ xs. xs ++ End ∷ []) g.journal ∙ append_assoc before g.more (End ∷ []);
+              settles = All-push (λ e. is_settling e ≡ true) g.more End g.settles refl;
+              runs = IsRunFrom-append m first g.more (End ∷ []) g.runs (rw due refl, tt);
+              state = rw (after-append m first g.more (End ∷ [])) ended;
+            };
+        settled =
+            rw (after-append m first g.more (End ∷ []))
+            (over-quiet m (next m s End) (λ p. plain-at located (next m s End).processes (ended_contents m x).seats p ended.seated) refl (ended-over m s due));
+      }
+
+  -- or it has where nothing can be taken and the collective end is not due
+  pub settles-calm :
+      (first : State) (before events : List Event) (x : Contents P)
+      → GoesOn m located first before events x
+      → ((s : State) → IsState located s x → IsCalm m s)
+      → due_in m x.seats x.pending ≡ false
+      → Settles m located first before events x
+  settles-calm first before events x g calm h =
+      let s = after m first g.more in
+      record {
+        goes_on = g;
+        settled =
+            not-unsettled m s (λ p. plain-at located s.processes x.seats p g.state.seated) g.state.untimed (calm s g.state)
+            (sym (due-same s x g.state) ∙ h);
+      }
