@@ -11,10 +11,12 @@ is that of a run that makes and verifies the code so often, less that of a run t
 
 import os
 import pathlib
+import re
 import shutil
 import subprocess
 import sys
 import tempfile
+import time
 
 HERE = pathlib.Path(__file__).resolve().parent
 CRATES = HERE.parent / "crates"
@@ -38,12 +40,28 @@ def build(folder):
     return crate / "out" / "bench"
 
 
+def peak(process):
+    """The most memory in KB that the process had so far, by the kernel's count of its pages."""
+    try:
+        status = pathlib.Path(f"/proc/{process.pid}/status").read_text()
+    except OSError:
+        return 0
+    found = re.search(r"^VmHWM:\s*(\d+) kB$", status, re.M)
+    return int(found.group(1)) if found else 0
+
+
 def run(program, words):
     process = subprocess.Popen([program, *words], stdout=subprocess.DEVNULL)
-    _, status, used = os.wait4(process.pid, 0)
+    most = 0
+    while True:
+        most = max(most, peak(process))
+        ended, status, used = os.wait4(process.pid, os.WNOHANG)
+        if ended:
+            break
+        time.sleep(0.002)
     if status != 0:
         sys.exit(f"{words}: status {status}")
-    return used.ru_utime, used.ru_maxrss
+    return used.ru_utime, most
 
 
 def measure(program, name, turns):
