@@ -92,4 +92,3 @@ numbered-more alts i n a h same e =
 -- the loop has gone over all
 pub any-whole : {X : Type 0} (p : X → Bool) (xs : List X) (i : ℕ) → length xs ≤ i → list_any p (take i xs) ≡ false → list_any p xs ≡ false
 any-whole p xs i le none = ap (list_any p) (sym (take_all i xs le)) ∙ none
-

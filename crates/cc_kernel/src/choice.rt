@@ -304,11 +304,7 @@ fn may_end<B: Behave>(
     standing.is_over() || waits_at_terminate(code, seats, at, calls)
 }
 
-fn all_may_end<B: Behave>(
-    code: &B,
-    seats: &Seats<B::Proc>,
-    calls: &[TransactionCall],
-) -> bool
+fn all_may_end<B: Behave>(code: &B, seats: &Seats<B::Proc>, calls: &[TransactionCall]) -> bool
     ensures { result ≡ list_all (λ e. seat_may_end (B.means code.now) seats.now.items calls.now e.0) (enumerate_from 0 seats.now.items) }
 {
     for at in 0..seats.len() {
@@ -319,11 +315,7 @@ fn all_may_end<B: Behave>(
     true
 }
 
-fn some_waits<B: Behave>(
-    code: &B,
-    seats: &Seats<B::Proc>,
-    calls: &[TransactionCall],
-) -> bool
+fn some_waits<B: Behave>(code: &B, seats: &Seats<B::Proc>, calls: &[TransactionCall]) -> bool
     ensures { result ≡ list_any (λ e. seat_waits (B.means code.now) seats.now.items calls.now e.0) (enumerate_from 0 seats.now.items) }
 {
     for at in 0..seats.len() {
@@ -335,11 +327,7 @@ fn some_waits<B: Behave>(
 }
 
 /// Whether the collective end is due: every process is over or waits at `terminate`, and at least one waits there.
-pub(crate) fn is_due<B: Behave>(
-    code: &B,
-    seats: &Seats<B::Proc>,
-    calls: &[TransactionCall],
-) -> bool
+pub(crate) fn is_due<B: Behave>(code: &B, seats: &Seats<B::Proc>, calls: &[TransactionCall]) -> bool
     ensures { result ≡ due_in (B.means code.now) seats.now.items calls.now }
 {
     all_may_end(code, seats, calls) && some_waits(code, seats, calls)
