@@ -1,6 +1,5 @@
 //! Runs of programs that follow a table, on the kernel and on a pool of one worker.
-ghost use Rattle.std.specs.Prelude.{◌≡◌, ℕ, ℤ, List};
-ghost use Rattle.cc_base.specs.declared.request.Grant.{Grant};
+ghost use Rattle.std.specs.Prelude.{◌≡◌};
 ghost use Rattle.cc_kernel.specs.Untimed.{AsksNoDeadline};
 
 use crate::tables::{Script, Step};
