@@ -1,8 +1,8 @@
 -- The collective end: what is kept follows the machine, and nothing comes after it.
-use Rattle.std.proofs.Common.{◌≡◌, inl, inr, ℕ, zero, suc, ◌+◌, ◌<◌, ◌≤◌, ℤ, Bool, true, false, ◌&&◌, ◌||◌, cond, not, List, [], ◌∷◌, ◌++◌, length, get_or, map, refl, sym, ap, ◌∙◌, arith, nat_eq, append_assoc, set}
-use Rattle.std.specs.Prelude.{if◌then◌else◌, Some}
+use Rattle.std.proofs.Common.{◌≡◌, inl, inr, ℕ, suc, ◌+◌, ◌<◌, ℤ, Bool, true, false, ◌&&◌, ◌||◌, cond, not, List, [], ◌∷◌, ◌++◌, length, map, refl, sym, ap, ◌∙◌, arith, append_assoc, set}
+use Rattle.std.specs.Prelude.{if◌then◌else◌}
 use Rattle.std.specs.List.{enumerate_from, filter, list_all, list_any}
-use Rattle.std.proofs.lemmas.Bool.{and_parts, cases_lt, eqb-true}
+use Rattle.std.proofs.lemmas.Bool.{cases_lt, eqb-true}
 use Rattle.std.proofs.lemmas.List.{get_or_past}
 use Rattle.std.proofs.lemmas.List.Elements.{All-push}
 use Rattle.cc_base.specs.Meaning.{Meaning}
@@ -11,7 +11,7 @@ use Rattle.cc_kernel.proofs.Plain.{false-from, not-unsettled, over-quiet}
 use Rattle.cc_kernel.proofs.Seated.{Seated-length, out-running, plain-at, same-standing}
 use Rattle.cc_kernel.specs.Choice.{after_end, due_in, seat_may_end, seat_waits, waits_so}
 use Rattle.cc_kernel.specs.Settles.{GoesOn, IsCalm, Settles}
-use Rattle.cc_kernel.specs.Store.{Contents, IsPlain, IsState, SeatFits, Seated, ended_contents}
+use Rattle.cc_kernel.specs.Store.{Contents, IsState, SeatFits, Seated, ended_contents}
 use Rattle.cc_kernel.specs.Seats.{is_out, is_served_by, seat_at, served_call, vacant, with_left}
 use Rattle.cc_kernel.specs.declared.seat.Seat.{Seat}
 use Rattle.cc_kernel.specs.declared.served.ServedCall.{ServedCall}
@@ -21,11 +21,11 @@ use Rattle.cc_kernel.proofs.Walking.{walked, walked-at, walked-keep, walked-set}
 use Rattle.cc_rules.proofs.Bools.{both-ways}
 use Rattle.cc_rules.proofs.EndIsLast.{ended-over}
 use Rattle.cc_rules.proofs.GoOn.{IsRunFrom-append, after-append}
-use Rattle.cc_rules.specs.Choice.{every_process, some_process}
+use Rattle.cc_rules.specs.Choice.{every_process}
 use Rattle.cc_rules.proofs.CollectiveEnd.{length-all_ended, over_or_waits}
-use Rattle.cc_rules.proofs.NextStays.{all_ended-at, ended_at_terminate}
-use Rattle.cc_rules.specs.Ends.{is_due, is_unsettled, waits_at_terminate}
-use Rattle.cc_rules.specs.Events.{all_ended, is_legal, next}
+use Rattle.cc_rules.proofs.NextStays.{all_ended-at}
+use Rattle.cc_rules.specs.Ends.{is_due, waits_at_terminate}
+use Rattle.cc_rules.specs.Events.{all_ended, next}
 use Rattle.cc_rules.specs.Runs.{after, is_settling}
 use Rattle.cc_rules.specs.State.{Process, State, is_over, is_running, nobody, process_at}
 use Rattle.cc_rules.specs.declared.event.Event.{Event}

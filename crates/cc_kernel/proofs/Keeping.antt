@@ -1,7 +1,7 @@
 -- The kernel keeps its run where a process goes out, and what a process asks is done.
 use Rattle.std.proofs.Common.{◌≡◌, ℕ, ◌+◌, ◌<◌, ◌≤◌, ℤ, Bool, true, false, List, [], ◌∷◌, ◌++◌, length, set, map, refl, sym, ap, ◌∙◌, subst, arith, append_assoc, cond, nat_eq, rules}
 use Rattle.std.specs.Prelude.{All}
-use Rattle.std.specs.List.{filter, list_any}
+use Rattle.std.specs.List.{filter}
 use Rattle.std.proofs.lemmas.List.Elements.{All-cons, All-head, All-nil, All-tail}
 use Rattle.std.proofs.lemmas.List.{length-set, set-get_or}
 use Rattle.cc_base.specs.Meaning.{Meaning}
@@ -31,7 +31,7 @@ use Rattle.cc_rules.proofs.QuietEvents.{settling-settled, settling-turns}
 use Rattle.cc_rules.specs.Effects.{effect}
 use Rattle.cc_rules.specs.Ends.{is_due, is_unsettled}
 use Rattle.cc_rules.specs.Events.{is_legal, next, request_at, same_word, word_of}
-use Rattle.cc_rules.specs.Runs.{IsRun, IsSettledRun, after, state_after, turns}
+use Rattle.cc_rules.specs.Runs.{IsRun, IsSettledRun, after, state_after}
 use Rattle.cc_rules.specs.State.{State, first_state, is_running, process_at}
 use Rattle.cc_rules.specs.declared.event.Event.{Event}
 use Rattle.cc_rules.specs.declared.event.Event.TheVariants.{Ask}

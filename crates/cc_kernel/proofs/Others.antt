@@ -1,6 +1,6 @@
 -- What a process asks, and what settles the state after it, leaves every other process that is running as it is, and prints
 -- what the request prints.
-use Rattle.std.proofs.Common.{◌≡◌, ◌≢◌, ℕ, ℤ, ◌+◌, Bool, true, false, List, [], ◌∷◌, ◌++◌, refl, sym, ap, ◌∙◌, arith, cond, append-nil, append_assoc, map}
+use Rattle.std.proofs.Common.{◌≡◌, ◌≢◌, ℕ, ℤ, true, List, [], ◌∷◌, ◌++◌, refl, sym, ap, ◌∙◌, append-nil, append_assoc, map}
 use Rattle.cc_base.specs.Meaning.{Meaning}
 use Rattle.cc_base.specs.declared.names.Pid.{Pid}
 use Rattle.cc_base.specs.declared.request.Grant.{Grant}
@@ -17,7 +17,7 @@ use Rattle.cc_rules.proofs.QuietEvents.{settling-prints, settling-stays}
 use Rattle.cc_rules.proofs.NextStays.{same-running}
 use Rattle.cc_rules.specs.Effects.{effect}
 use Rattle.cc_rules.specs.Events.{next, request_at, word_of}
-use Rattle.cc_rules.specs.Runs.{IsRun, IsRunFrom, after, bytes_of, printed, printed_from, state_after}
+use Rattle.cc_rules.specs.Runs.{IsRun, IsRunFrom, after, bytes_of, printed, state_after}
 use Rattle.cc_rules.specs.State.{Process, State, first_state, is_running, process_at}
 use Rattle.cc_rules.specs.declared.event.Event.{Event}
 use Rattle.cc_rules.specs.declared.event.Event.TheVariants.{Ask, Accept, Instant, Expire, Withdraw, Time, End}

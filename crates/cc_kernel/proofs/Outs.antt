@@ -8,7 +8,7 @@ use Rattle.cc_base.specs.declared.names.Pid.{Pid}
 use Rattle.cc_base.specs.declared.request.Grant.{Grant}
 use Rattle.cc_base.specs.declared.request.Grant.TheVariants.{Gone}
 use Rattle.cc_kernel.specs.Contract.{is_out_in}
-use Rattle.cc_kernel.specs.Seats.{answered_seats, gone_seats, is_out, whereabouts_out, seat_at, vacant, woken, whereabouts_woken, with_out}
+use Rattle.cc_kernel.specs.Seats.{answered_seats, gone_seats, is_out, whereabouts_out, seat_at, vacant, woken, whereabouts_woken}
 use Rattle.cc_kernel.specs.declared.seat.Whereabouts.{Whereabouts}
 use Rattle.cc_kernel.specs.declared.seat.Whereabouts.TheVariants.{Ready, Out, Waits, Left}
 use Rattle.cc_kernel.specs.declared.seat.Seat.{Seat}

@@ -2,16 +2,16 @@
 -- end is not due.
 use Rattle.std.proofs.Common.{◌≡◌, ℕ, suc, ℤ, Bool, true, false, ◌&&◌, ◌||◌, not, List, [], ◌∷◌, length, ◌<◌, get_or, refl, sym, ap, ◌∙◌, nat_eq, Option, Some, None}
 use Rattle.std.specs.Prelude.{is_some, if◌then◌else◌, nat_le}
-use Rattle.std.specs.List.{enumerate_from, find, list_all, list_any}
+use Rattle.std.specs.List.{enumerate_from, list_any}
 use Rattle.std.specs.Option.{option_map_or}
-use Rattle.std.proofs.lemmas.Bool.{and_parts, eqb-true}
+use Rattle.std.proofs.lemmas.Bool.{and_parts}
 use Rattle.std.proofs.lemmas.List.Folds.{list_any_at}
 use Rattle.cc_base.specs.Meaning.{Meaning}
 use Rattle.cc_base.specs.declared.alternatives.Alt.{Alt}
 use Rattle.cc_base.specs.declared.alternatives.Alt.TheVariants as alt
 use Rattle.cc_base.specs.declared.request.Grant.{Grant}
-use Rattle.cc_kernel.proofs.Seated.{plain-at, same-standing}
-use Rattle.cc_kernel.specs.Choice.{goes_at_once, is_takable, some_takable, takes}
+use Rattle.cc_kernel.proofs.Seated.{same-standing}
+use Rattle.cc_kernel.specs.Choice.{goes_at_once, is_takable, some_takable}
 use Rattle.cc_kernel.specs.Settles.{IsCalm}
 use Rattle.cc_kernel.specs.Store.{AllUntimed, IsUntimed, IsPlain, IsState, Contents}
 use Rattle.cc_kernel.specs.Untimed.{IsNoDelay, NoDelays}
@@ -19,10 +19,8 @@ use Rattle.cc_kernel.specs.Seats.{seat_at}
 use Rattle.cc_base.specs.Alternatives.{numbered}
 use Rattle.cc_rules.proofs.Bools.{both-ways}
 use Rattle.cc_rules.proofs.CollectiveEnd.{every-at, over_or_waits}
-use Rattle.cc_rules.proofs.Settled.{IsSettled-by_test}
-use Rattle.cc_rules.specs.Choice.{accepts, alternative_deadline, call_deadline, call_numbered, every_process, expires, expires_at, expiring_numbers, has_eligible, has_immediate, is_acceptable, is_chosen, is_eligible, is_first_due, is_immediate, is_terminate, may_withdraw, rank, some_process, takes_at_once}
+use Rattle.cc_rules.specs.Choice.{alternative_deadline, call_deadline, every_process, expires, expires_at, expiring_numbers, has_eligible, has_immediate, is_acceptable, is_chosen, is_eligible, is_first_due, is_terminate, may_withdraw, rank, some_process, takes_at_once}
 use Rattle.cc_rules.specs.Ends.{has_deadline, is_due, is_timed, is_unsettled, waits_at_terminate}
-use Rattle.cc_rules.specs.Runs.{IsSettled}
 use Rattle.cc_rules.specs.State.{Process, State, is_over, is_running, open_alternatives, process_at}
 use Rattle.cc_rules.specs.declared.process.ProcessStanding.{ProcessStanding}
 use Rattle.cc_rules.specs.declared.process.ProcessStanding.TheVariants.{Running, AtSelect, AtDelay, AtCall, Ended, Faulted}

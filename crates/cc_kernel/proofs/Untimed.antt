@@ -1,5 +1,5 @@
 -- What is supported has no deadline.
-use Rattle.std.proofs.Common.{ℕ, ℤ, List, [], ◌∷◌}
+use Rattle.std.proofs.Common.{ℕ, List, [], ◌∷◌}
 use Rattle.cc_base.specs.Meaning.{Meaning}
 use Rattle.cc_base.specs.Supported.{AsksSupported, IsAccept, IsOneAccept, IsSupported}
 use Rattle.cc_base.specs.declared.alternatives.Alt.{Alt}

@@ -1,5 +1,5 @@
 -- Which pending calls may be taken, and who may go on without a call, as the lists of the kernel tell it.
-use Rattle.std.specs.Prelude.{ℕ, Bool, true, false, ◌&&◌, ◌||◌, not, if◌then◌else◌, List}
+use Rattle.std.specs.Prelude.{ℕ, Bool, false, ◌&&◌, ◌||◌, not, if◌then◌else◌, List}
 use Rattle.std.specs.List.{enumerate_from, list_all, list_any}
 use Rattle.std.specs.Option.{option_map_or}
 use Rattle.cc_base.specs.Meaning.{Meaning}

@@ -1,5 +1,5 @@
 -- What a kernel is to its callers. Nothing here speaks of what it keeps inside.
-use Rattle.std.specs.Prelude.{◌≡◌, ◌≢◌, ℕ, ◌+◌, ℤ, pos, Bool, true, false, List, [], ◌∷◌, ◌++◌, get_or, length, replicate}
+use Rattle.std.specs.Prelude.{◌≡◌, ◌≢◌, ℕ, ℤ, pos, Bool, true, false, List, [], ◌∷◌, ◌++◌, get_or, length, replicate}
 use Rattle.std.specs.List.{AllPass}
 use Rattle.cc_base.specs.Grants.{HasKind, IsNext, IsProper}
 use Rattle.cc_base.specs.Meaning.{Meaning}

@@ -1,6 +1,5 @@
 -- When a kernel is one: its journal is a settled run whose last state is kept, and what is made for the next step is there.
 use Rattle.std.specs.Prelude.{◌≡◌, ℕ, ◌+◌, ◌≤◌, ◌<◌, ℤ, false, List, [], length, All}
-use Rattle.std.specs.List.{list_any}
 use Rattle.cc_base.specs.Grants.{value_cells}
 use Rattle.cc_base.specs.Meaning.{Meaning}
 use Rattle.cc_base.specs.declared.request.Grant.{Grant}

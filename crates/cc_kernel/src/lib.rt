@@ -7,14 +7,22 @@
 //! grant, out, waiting, or gone. The state of the machine isn't stored. It is the run of the journal, and the kernel's
 //! invariant says that what is kept is that state (`IsState` in `specs/Store`, `IsKept` in `specs/Invariant`).
 //!
-//! A step has three parts: what the process asks is performed (`perform`), the journal says so, and calls are taken until
-//! none can be (`settle`). All memory of a step is taken before it (`prepare`), so that no step is ever half done: room for the
-//! events, for one more pending call, for as many served calls as are pending, for one more seat, the process that a Create
-//! makes, and the value of a Reply with enough zeros at its end.
+//! A step has three parts: what the process asks is performed (`perform`), the journal says so, and the machine settles
+//! (`settle`): as long as there is one, a call is taken that can be, or an immediate alternative where no call can; then the
+//! collective end comes where it is due. Each of these turns one process that waits at a `select` into one that runs, so there
+//! are at most as many as there are seats, and the end is one more.
+//!
+//! The requests have no deadline (`specs/Untimed`): no timed call, no `delay`, and no `select` with a delay alternative. So
+//! nothing expires and no call is withdrawn, and a state is settled in which nothing can be taken and the end is not due.
+//!
+//! All memory of a step is taken before it (`prepare`), so that no step is ever half done: room for the events, for one more
+//! pending call, for as many served calls as are pending, for one more seat, the process that a Create makes, and the value
+//! of a Reply with enough zeros at its end.
 //!
 //! What a step costs grows with the processes, the pending calls and the served ones, and not with the journal: `pick` and
 //! `state` walk the seats; a Reply, an end and a fault walk the served calls; and `settle` holds each pending call whose
-//! target waits at a `select` against every other one, once more after each accept.
+//! target waits at a `select` against every other one, and each process that waits there against the pending calls, once
+//! more after each event.
 #![tactic(auto)]
 
 mod asks;

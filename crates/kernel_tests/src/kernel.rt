@@ -1,7 +1,6 @@
 //! Runs of programs that follow a table, on the kernel and on a pool of one worker.
-ghost use Rattle.std.specs.Prelude.{◌≡◌, ℕ, ℤ, List};
-ghost use Rattle.cc_base.specs.declared.request.Grant.{Grant};
-ghost use Rattle.cc_base.specs.Supported.{IsSupported};
+ghost use Rattle.std.specs.Prelude.{◌≡◌};
+ghost use Rattle.cc_kernel.specs.Untimed.{AsksNoDeadline};
 
 use crate::tables::{Script, Step};
 use cc_base::{Behave, Bytes, CallId, Cells, FaultKind, Grant, Memory, Pid};
@@ -41,7 +40,7 @@ fn see_all(seen: &mut Seen, cells: &Cells) -> Result<(), Memory> {
 
 /// A process that is ready goes on with its grant, and what it asks is done. False where none is ready.
 fn go_on<B: Behave>(kernel: &mut Kernel<B>, alloc: Global, seen: &mut Seen) -> Result<bool, Memory>
-    requires supported { (kind : ℕ) (args : List ℤ) (grants : List Grant) → IsSupported ((B.means kernel.old.code).act kind args grants) }
+    requires no_deadline { AsksNoDeadline (B.means kernel.old.code) }
     ensures code { kernel.new.code ≡ kernel.old.code }
 {
     let Some((pid, mut process, grant)) = kernel.pick() else {
@@ -62,7 +61,7 @@ fn go_on_for<B: Behave>(
     seen: &mut Seen,
     slices: u32,
 ) -> Result<(), Memory>
-    requires supported { (kind : ℕ) (args : List ℤ) (grants : List Grant) → IsSupported ((B.means kernel.old.code).act kind args grants) }
+    requires no_deadline { AsksNoDeadline (B.means kernel.old.code) }
 {
     for _ in 0..slices {
         if !go_on(kernel, alloc, seen)? {

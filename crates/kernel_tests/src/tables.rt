@@ -1,13 +1,13 @@
 //! A program that follows a table, whatever it is granted.
-ghost use Rattle.std.specs.Prelude.{◌≡◌, [], ◌∷◌, IfOk, slice_get};
-ghost use Rattle.kernel_tests.specs.Tables.{request_of, steps_of};
+ghost use Rattle.std.specs.Prelude.{◌≡◌, Bool, [], ◌∷◌, IfOk, slice_get};
+ghost use Rattle.kernel_tests.specs.Tables.{accept_of, alternatives_of, request_of, steps_of, trans_of};
 
 use cc_base::{Alt, Alts, Behave, Bytes, Cells, FaultKind, Grant, Memory, Pid, Request, Shape};
 use cc_rules::Word;
 use std::alloc::Global;
 use std::sync::Arc;
 
-/// What is asked: the word, the process that is called or the byte that is printed, whether the second kind of process or
+/// What is asked: the word, the process that is called, the byte that is printed or which alternatives are open, whether the second kind of process or
 /// transaction is meant, and the cell that is sent or answered.
 pub type Step = (Word, u8, bool, i64);
 
@@ -108,6 +108,42 @@ fn one_cell(alloc: Global, cell: i64) -> Result<Cells, Memory>
     Ok(cells)
 }
 
+fn accept(alloc: Global, trans: u32) -> Alt
+    ensures { result ≡ accept_of trans }
+{
+    Alt::Accept {
+        trans,
+        site: trans,
+        env: Cells::new(alloc),
+    }
+}
+
+// A select of two alternatives.
+fn two(alloc: Global, first: Alt, second: Alt) -> Result<Alts, Memory>
+    ensures { IfOk result (λ alts. alts ≡ (0, first) ∷ (1, second) ∷ []) }
+{
+    let mut alts = Alts::new(alloc);
+    alts.push((0, first))?;
+    alts.push((1, second))?;
+    Ok(alts)
+}
+
+// The alternatives of a select.
+fn alternatives(alloc: Global, number: u8, trans: u32) -> Result<Alts, Memory>
+    ensures { (second : Bool) → trans ≡ trans_of second → IfOk result (λ alts. alts ≡ alternatives_of number second) }
+{
+    match number {
+        0 => {
+            let mut alts = Alts::new(alloc);
+            alts.push((0, accept(alloc, trans)))?;
+            Ok(alts)
+        }
+        1 => two(alloc, accept(alloc, trans), Alt::Now),
+        2 => two(alloc, accept(alloc, trans), Alt::Terminate),
+        _ => two(alloc, accept(alloc, 0), accept(alloc, 1)),
+    }
+}
+
 // The request of a step.
 fn request(alloc: Global, step: Step) -> Result<Request, Memory>
     ensures { IfOk result (λ r. r ≡ request_of step.0 step.1 step.2 step.3) }
@@ -125,16 +161,14 @@ fn request(alloc: Global, step: Step) -> Result<Request, Memory>
             trans,
             args: one_cell(alloc, cell)?,
         }),
-        Word::Select => {
-            let mut alts = Alts::new(alloc);
-            let accept = Alt::Accept {
-                trans,
-                site: trans,
-                env: Cells::new(alloc),
-            };
-            alts.push((0, accept))?;
-            Ok(Request::Select { alts })
-        }
+        Word::Send => Ok(Request::Send {
+            target: Pid(number as u32),
+            trans,
+            args: one_cell(alloc, cell)?,
+        }),
+        Word::Select => Ok(Request::Select {
+            alts: alternatives(alloc, number, trans)?,
+        }),
         Word::Reply => Ok(Request::Reply {
             value: one_cell(alloc, cell)?,
         }),

@@ -1,4 +1,4 @@
-use Rattle.std.proofs.Common.{◌≡◌, ◌∙◌, ◌<◌, ap, length, sym}
+use Rattle.std.proofs.Common.{◌∙◌, ◌<◌, ap, length}
 use Rattle.cc_kernel.proofs.Ending.{end-step}
 use Rattle.cc_kernel.proofs.Walking.{walked-long, walked-whole}
 use Rattle.cc_kernel.specs.Choice.{after_end}

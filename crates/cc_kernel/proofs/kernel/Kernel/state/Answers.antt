@@ -2,7 +2,6 @@ use Rattle.std.proofs.Common.{sym, ◌∙◌}
 use Rattle.cc_kernel.proofs.Stands.{shape-ended, shape-going, shape-spent, same-count, other-count, shape-stuck, some-running, stands-as}
 use Rattle.cc_kernel.specs.Store.{contents}
 use Rattle.cc_rules.specs.Runs.{state_after, turns}
-use Rattle.cc_rules.specs.State.{is_running}
 use Rattle.cc_kernel.proofs.kernel.Kernel.state.Goals as goal
 
 pub returns-then-all_over-clause-standing : goal.returns-then-all_over-clause-standing
