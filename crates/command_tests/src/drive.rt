@@ -6,8 +6,8 @@ use cc_kernel::Kernel;
 use cc_pool::{Driven, Stop, drive};
 use cc_rules::{Event, Faults, Journal, Standing, Word};
 use cc_source::{
-    AcceptPart, Argument, ChainStep, DataType, Early, Expression, Kind, Location, NumberType, Program,
-    ProgramParts, Site, Statement, Transaction,
+    AcceptPart, Argument, ChainStep, DataType, Early, Expression, Kind, Location, NumberType,
+    Program, ProgramParts, Site, Statement, Transaction,
 };
 use cc_world::MemSink;
 use sqlite_items::{Boxed, Items};

@@ -8,6 +8,6 @@ mod phrases;
 #[cfg(test)]
 mod programs;
 #[cfg(test)]
-mod structures;
-#[cfg(test)]
 mod straight;
+#[cfg(test)]
+mod structures;

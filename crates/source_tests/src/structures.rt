@@ -12,13 +12,23 @@ use std::rt::HostRuntime;
 fn nested(alloc: Global, count: u32) -> Result<bool, AllocError> {
     let structures = nested_structures(alloc, count)?;
     let place = innermost(alloc, count)?;
-    is_typed_in(alloc, structures, structure_type(count.saturating_sub(1)), evaluate(read(place)))
+    is_typed_in(
+        alloc,
+        structures,
+        structure_type(count.saturating_sub(1)),
+        evaluate(read(place)),
+    )
 }
 
 /// Whether a program with this one structure is typed.
 fn alone(alloc: Global, structure: Result<Structure, AllocError>) -> Result<bool, AllocError> {
     let structures = one(alloc, structure?)?;
-    is_typed_in(alloc, structures, DataType::int(), evaluate(cc_typed::Expression::GetChar))
+    is_typed_in(
+        alloc,
+        structures,
+        DataType::int(),
+        evaluate(cc_typed::Expression::GetChar),
+    )
 }
 
 /// `struct a { int x; long y[3]; };` and `struct b { char c; struct a d; };`.
