@@ -75,14 +75,17 @@ module _ (structures : List Structure) where
   process-cells (Single (item.Struct n)) kind cs b = cc
 
   -- the process that is called
-  pub called-cells : (o : Option Transaction) (t u : DataType) (cs : List ℤ) → is_called o t u ≡ true → number (unflat (layout_of structures t) cs) ≡ get_or cs 0 (pos 0)
+  pub called-cells : (o : Option Transaction) (t u : DataType) (cs : List ℤ) → is_called o t u ≡ true
+      → number (unflat (layout_of structures t) cs) ≡ get_or cs 0 (pos 0)
   called-cells None t u cs b = cc
   called-cells (Some tr) t u cs b = process-cells t tr.kind cs (and-right (not tr.is_async) _ (and-left _ _ b))
 
-  numbers-convert : (t u : DataType) (cs : List ℤ) (r : Result ℤ FaultKind) (sc : Scope) (l : Left) → is_arithmetic t ≡ true → is_assignable t u ≡ true → r ≡ converted (number_in t) (number_in u) (get_or cs 0 (pos 0))
+  numbers-convert : (t u : DataType) (cs : List ℤ) (r : Result ℤ FaultKind) (sc : Scope) (l : Left) → is_arithmetic t ≡ true → is_assignable t u ≡ true
+      → r ≡ converted (number_in t) (number_in u) (get_or cs 0 (pos 0))
       → converted_value t u (unflat (layout_of structures t) cs) sc l ≡ and_then (or_fault r sc l) (λ n sc1 l1. Through (Number n) sc1 l1)
   unfolding element_within unflat
-  numbers-convert (Single (item.Number n)) (Single (item.Number m)) cs r sc l b a e = ap (λ q. and_then (or_fault q sc l) (λ k sc1 l1. Through (Number k) sc1 l1)) (sym e)
+  numbers-convert (Single (item.Number n)) (Single (item.Number m)) cs r sc l b a e =
+      ap (λ q. and_then (or_fault q sc l) (λ k sc1 l1. Through (Number k) sc1 l1)) (sym e)
   numbers-convert (Single (item.Number n)) Void cs r sc l b a e = cc
   numbers-convert (Single (item.Number n)) (Array f m) cs r sc l b a e = cc
   numbers-convert (Single (item.Number n)) (Single (item.Process k)) cs r sc l b a e = cc
@@ -120,11 +123,13 @@ module _ (structures : List Structure) where
   arithmetic-size (Single (item.Struct n)) b = cc
 
   -- a number that is converted, as a cell
-  pub convert-ok : (t u : DataType) (cs : List ℤ) (n : ℤ) (sc : Scope) (l : Left) → is_arithmetic t ≡ true → is_assignable t u ≡ true → Ok n ≡ converted (number_in t) (number_in u) (get_or cs 0 (pos 0))
+  pub convert-ok : (t u : DataType) (cs : List ℤ) (n : ℤ) (sc : Scope) (l : Left) → is_arithmetic t ≡ true → is_assignable t u ≡ true
+      → Ok n ≡ converted (number_in t) (number_in u) (get_or cs 0 (pos 0))
       → converted_value t u (unflat (layout_of structures t) cs) sc l ≡ Through (unflat (layout_of structures u) (n ∷ [])) sc l
   convert-ok t u cs n sc l b a e = numbers-convert t u cs (Ok n) sc l b a e ∙ ap (λ v. Through v sc l) (sym (arithmetic-cell u n (assigned-number t u b a)))
 
-  pub convert-err : (t u : DataType) (cs : List ℤ) (kind : FaultKind) (sc : Scope) (l : Left) → is_arithmetic t ≡ true → is_assignable t u ≡ true → Err kind ≡ converted (number_in t) (number_in u) (get_or cs 0 (pos 0))
+  pub convert-err : (t u : DataType) (cs : List ℤ) (kind : FaultKind) (sc : Scope) (l : Left) → is_arithmetic t ≡ true → is_assignable t u ≡ true
+      → Err kind ≡ converted (number_in t) (number_in u) (get_or cs 0 (pos 0))
       → converted_value t u (unflat (layout_of structures t) cs) sc l ≡ Asked (request.Fault kind)
   convert-err t u cs kind sc l b a e = numbers-convert t u cs (Err kind) sc l b a e
 
@@ -164,7 +169,8 @@ module _ (structures : List Structure) where
 
   pub convert-same : (t u : DataType) (cs : List ℤ) (sc : Scope) (l : Left) → is_arithmetic t ≡ false → is_assignable t u ≡ true
       → converted_value t u (unflat (layout_of structures t) cs) sc l ≡ Through (unflat (layout_of structures u) cs) sc l
-  convert-same t u cs sc l b a = kept t u (unflat (layout_of structures t) cs) sc l b ∙ ap (λ w. Through (unflat (layout_of structures w) cs) sc l) (same-kept t u b a)
+  convert-same t u cs sc l b a =
+      kept t u (unflat (layout_of structures t) cs) sc l b ∙ ap (λ w. Through (unflat (layout_of structures w) cs) sc l) (same-kept t u b a)
 
   pub same-size : (t u : DataType) → is_arithmetic t ≡ false → is_assignable t u ≡ true → cells (layout_of structures t) ≡ cells (layout_of structures u)
   same-size t u b a = ap (λ w. cells (layout_of structures w)) (same-kept t u b a)

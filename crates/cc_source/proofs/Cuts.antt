@@ -74,7 +74,8 @@ drop-least cs n = go (min n (length cs)) n cs refl
 pub cells-step : (cs : List ℤ) (k : ℕ) → k < length cs → drop k cs ≡ get_or cs k (pos 0) ∷ drop (k + 1) cs
 cells-step cs k lt = drop-at cs k (pos 0) lt
 
-pub ruleset cells_of_lists = (cells-step, get-some, get-none, one-more-zero, fitted-step, fitted-end, length-fitted, drop-least, unwrap_or-slice_get, append_assoc, append-nil)
+pub ruleset cells_of_lists =
+    (cells-step, get-some, get-none, one-more-zero, fitted-step, fitted-end, length-fitted, drop-least, unwrap_or-slice_get, append_assoc, append-nil)
 
 drop-zero : (cs : List ℤ) → drop 0 cs ≡ cs
 drop-zero [] = refl
@@ -134,7 +135,8 @@ pub fitted-taken : (l : Layout) (cs : List ℤ) → unflat l (fitted (cells l) c
 fitted-taken l cs = ap (unflat l) (sym (fitted-take (cells l) cs)) ∙ unflat-fitted l (take (cells l) cs)
 
 module _ (structures : List Structure) where
-  pub seen-fitted : (ts : List DataType) (cs : List ℤ) → seen structures ts (fitted_each (layouts_of structures ts) cs) ≡ unflats (layouts_of structures ts) cs
+  pub seen-fitted : (ts : List DataType) (cs : List ℤ)
+      → seen structures ts (fitted_each (layouts_of structures ts) cs) ≡ unflats (layouts_of structures ts) cs
   unfolding fitted_each
   seen-fitted [] cs = refl
   seen-fitted (t ∷ ts) cs =
@@ -152,13 +154,15 @@ module _ (structures : List Structure) where
   stand-blanks [] = tt
   stand-blanks (t ∷ ts) = (length-replicate (cells (layout_of structures t)) (pos 0), stand-blanks ts)
 
-  pub seen-append : (ts us : List DataType) (all more : List (List ℤ)) → Stand structures ts all → seen structures (ts ++ us) (all ++ more) ≡ seen structures ts all ++ seen structures us more
+  pub seen-append : (ts us : List DataType) (all more : List (List ℤ)) → Stand structures ts all
+      → seen structures (ts ++ us) (all ++ more) ≡ seen structures ts all ++ seen structures us more
   seen-append [] us [] more s = refl
   seen-append [] us (cs ∷ all) more s = absurd s
   seen-append (t ∷ ts) us [] more s = absurd s
   seen-append (t ∷ ts) us (cs ∷ all) more s = ap (λ vs. unflat (layout_of structures t) cs ∷ vs) (seen-append ts us all more s.1)
 
-  pub stand-append : (ts us : List DataType) (all more : List (List ℤ)) → Stand structures ts all → Stand structures us more → Stand structures (ts ++ us) (all ++ more)
+  pub stand-append : (ts us : List DataType) (all more : List (List ℤ)) → Stand structures ts all → Stand structures us more
+      → Stand structures (ts ++ us) (all ++ more)
   stand-append [] us [] more s r = r
   stand-append [] us (cs ∷ all) more s r = absurd s
   stand-append (t ∷ ts) us [] more s r = absurd s
@@ -200,7 +204,8 @@ pub blanks-step : (structures : List Structure) (ts : List DataType) (k : ℕ) (
 unfolding blanks
 blanks-step structures ts k d lt = ap (λ us. blanks (layouts_of structures us)) (drop-at ts k d lt)
 
-pub each-end : (structures : List Structure) (ts : List DataType) (k : ℕ) (cs : List ℤ) → k ≡ length ts → fitted_each (layouts_of structures (drop k ts)) cs ≡ []
+pub each-end : (structures : List Structure) (ts : List DataType) (k : ℕ) (cs : List ℤ) → k ≡ length ts
+    → fitted_each (layouts_of structures (drop k ts)) cs ≡ []
 unfolding fitted_each
 each-end structures ts k cs e = ap (λ us. fitted_each (layouts_of structures us) cs) (drop_all k ts (omega arith))
 
@@ -209,7 +214,8 @@ unfolding blanks
 blanks-end structures ts k e = ap (λ us. blanks (layouts_of structures us)) (drop_all k ts (omega arith))
 
 -- a variable more
-pub each-more : (structures : List Structure) (ts : List DataType) (k : ℕ) (d : DataType) (cs ds : List ℤ) (all : List (List ℤ)) (n : ℕ) → k < length ts → is_table structures ≡ true → n ≡ cells_in structures (get_or ts k d) → ds ≡ fitted n cs
+pub each-more : (structures : List Structure) (ts : List DataType) (k : ℕ) (d : DataType) (cs ds : List ℤ) (all : List (List ℤ)) (n : ℕ) → k < length ts
+    → is_table structures ≡ true → n ≡ cells_in structures (get_or ts k d) → ds ≡ fitted n cs
     → (all ++ ds ∷ []) ++ fitted_each (layouts_of structures (drop (k + 1) ts)) (drop n cs) ≡ all ++ fitted_each (layouts_of structures (drop k ts)) cs
 each-more structures ts k d cs ds all n lt table e f =
     let t = get_or ts k d in
@@ -220,7 +226,8 @@ each-more structures ts k d cs ds all n lt table e f =
     ∙ ap (λ m. all ++ fitted m cs ∷ rest m) same
     ∙ ap (λ xs. all ++ xs) (sym (each-step structures ts k d cs lt))
 
-pub blanks-more : (structures : List Structure) (ts : List DataType) (k : ℕ) (d : DataType) (ds : List ℤ) (all : List (List ℤ)) (n : ℕ) → k < length ts → is_table structures ≡ true → n ≡ cells_in structures (get_or ts k d) → ds ≡ replicate n (pos 0)
+pub blanks-more : (structures : List Structure) (ts : List DataType) (k : ℕ) (d : DataType) (ds : List ℤ) (all : List (List ℤ)) (n : ℕ) → k < length ts
+    → is_table structures ≡ true → n ≡ cells_in structures (get_or ts k d) → ds ≡ replicate n (pos 0)
     → (all ++ ds ∷ []) ++ blanks (layouts_of structures (drop (k + 1) ts)) ≡ all ++ blanks (layouts_of structures (drop k ts))
 blanks-more structures ts k d ds all n lt table e f =
     let t = get_or ts k d in

@@ -34,13 +34,16 @@ reply-is (Some u) t e = same-type u t e
 
 pub ruleset executing = (table-of, reply-is)
 
-pub statement-straight : (all : List Statement) (k : ℕ) (d : Statement) → list_all is_straight_statement all ≡ true → k < length all → is_straight_statement (get_or all k d) ≡ true
+pub statement-straight : (all : List Statement) (k : ℕ) (d : Statement) → list_all is_straight_statement all ≡ true → k < length all
+    → is_straight_statement (get_or all k d) ≡ true
 statement-straight all k d h lt = passes-at is_straight_statement all k d h lt
 
-pub statement-typed : (s : Surroundings) (all : List Statement) (k : ℕ) (d : Statement) → list_all (is_typed_statement s) all ≡ true → k < length all → is_typed_statement s (get_or all k d) ≡ true
+pub statement-typed : (s : Surroundings) (all : List Statement) (k : ℕ) (d : Statement) → list_all (is_typed_statement s) all ≡ true → k < length all
+    → is_typed_statement s (get_or all k d) ≡ true
 statement-typed s all k d h lt = passes-at (is_typed_statement s) all k d h lt
 
-left-so : (v : Evaluator) (e : Ending) (q : Eval Scope Flow) (sc : Scope) (l : Left) → is_ended e ≡ false → unless_left (flow_in v e) q sc l ≡ Through (flow_in v e) sc l
+left-so : (v : Evaluator) (e : Ending) (q : Eval Scope Flow) (sc : Scope) (l : Left) → is_ended e ≡ false
+    → unless_left (flow_in v e) q sc l ≡ Through (flow_in v e) sc l
 left-so v ending.Ended q sc l h = cc
 left-so v ending.Broke q sc l h = refl
 left-so v ending.Continued q sc l h = refl
@@ -62,18 +65,23 @@ module _ (p : Parts) (call : Caller) where
   row-step all k d sc l lt = ap (λ xs. exec_all p call xs sc l) (drop-at all k d lt)
 
   -- a statement that leaves
-  pub row-left : (all : List Statement) (k : ℕ) (d : Statement) (v : Evaluator) (e : Ending) (sc sc1 : Scope) (l l1 : Left) → k < length all → exec p call (get_or all k d) sc l ≡ Through (flow_in v e) sc1 l1 → is_ended e ≡ false
+  pub row-left : (all : List Statement) (k : ℕ) (d : Statement) (v : Evaluator) (e : Ending) (sc sc1 : Scope) (l l1 : Left) → k < length all
+      → exec p call (get_or all k d) sc l ≡ Through (flow_in v e) sc1 l1 → is_ended e ≡ false
       → exec_all p call (drop k all) sc l ≡ Through (flow_in v e) sc1 l1
   row-left all k d v e sc sc1 l l1 lt is h =
-      row-step all k d sc l lt ∙ ap (λ o. and_then o (λ flow. unless_left flow (exec_all p call (drop (k + 1) all)))) is ∙ left-so v e (exec_all p call (drop (k + 1) all)) sc1 l1 h
+      row-step all k d sc l lt ∙ ap (λ o. and_then o (λ flow. unless_left flow (exec_all p call (drop (k + 1) all)))) is
+      ∙ left-so v e (exec_all p call (drop (k + 1) all)) sc1 l1 h
 
   -- one that ends by itself
-  pub row-on : (all : List Statement) (k : ℕ) (d : Statement) (v : Evaluator) (e : Ending) (sc sc1 : Scope) (l l1 : Left) → k < length all → exec p call (get_or all k d) sc l ≡ Through (flow_in v e) sc1 l1 → is_ended e ≡ true
+  pub row-on : (all : List Statement) (k : ℕ) (d : Statement) (v : Evaluator) (e : Ending) (sc sc1 : Scope) (l l1 : Left) → k < length all
+      → exec p call (get_or all k d) sc l ≡ Through (flow_in v e) sc1 l1 → is_ended e ≡ true
       → exec_all p call (drop k all) sc l ≡ exec_all p call (drop (k + 1) all) sc1 l1
   row-on all k d v e sc sc1 l l1 lt is h =
-      row-step all k d sc l lt ∙ ap (λ o. and_then o (λ flow. unless_left flow (exec_all p call (drop (k + 1) all)))) is ∙ goes-on v e (exec_all p call (drop (k + 1) all)) sc1 l1 h
+      row-step all k d sc l lt ∙ ap (λ o. and_then o (λ flow. unless_left flow (exec_all p call (drop (k + 1) all)))) is
+      ∙ goes-on v e (exec_all p call (drop (k + 1) all)) sc1 l1 h
 
-  pub row-asked : (all : List Statement) (k : ℕ) (d : Statement) (q : Request) (sc : Scope) (l : Left) → k < length all → exec p call (get_or all k d) sc l ≡ Asked q → exec_all p call (drop k all) sc l ≡ Asked q
+  pub row-asked : (all : List Statement) (k : ℕ) (d : Statement) (q : Request) (sc : Scope) (l : Left) → k < length all
+      → exec p call (get_or all k d) sc l ≡ Asked q → exec_all p call (drop k all) sc l ≡ Asked q
   row-asked all k d q sc l lt is = row-step all k d sc l lt ∙ ap (λ o. and_then o (λ flow. unless_left flow (exec_all p call (drop (k + 1) all)))) is
 
   pub row-end : (all : List Statement) (k : ℕ) (sc : Scope) (l : Left) → k ≡ length all → exec_all p call (drop k all) sc l ≡ Through Ended sc l
@@ -82,7 +90,8 @@ module _ (p : Parts) (call : Caller) where
 pub ruleset in_a_row = (statement-straight, statement-typed, row-left, row-on, row-asked, row-end)
 
 -- the variables of an accept's parameters have their types
-pub parameters-fit : (v : Evaluator) (site : ℕ) → is_typed_program v.program.now ≡ true → body_variables v.program.now v.kind ≡ v.variables.now → is_accepted (around v) (slice_get v.program.now.sites site) ≡ true
+pub parameters-fit : (v : Evaluator) (site : ℕ) → is_typed_program v.program.now ≡ true → body_variables v.program.now v.kind ≡ v.variables.now
+    → is_accepted (around v) (slice_get v.program.now.sites site) ≡ true
     → have_types_from (parameters_at (transaction_of v.program.now site)) v.variables.now (first_at (slice_get v.program.now.sites site)) ≡ true
 parameters-fit v site typed body accepted = accept-types v.program.now (around v) site typed refl body accepted
 

@@ -20,7 +20,8 @@ pub straight-rank : (p : Parts) (s : Site) (env args : List ℤ) → is_straight
 unfolding zero_of element_within
 straight-rank p s env args h = go s.such_that s.least_by s.environment refl refl refl h
   where
-    go : (such least : _) (xs : List ℕ) → s.such_that ≡ such → s.least_by ≡ least → s.environment ≡ xs → (is_nothing such && is_nothing least && is_empty xs) ≡ true
+    go : (such least : _) (xs : List ℕ) → s.such_that ≡ such → s.least_by ≡ least → s.environment ≡ xs
+        → (is_nothing such && is_nothing least && is_empty xs) ≡ true
         → site_rank p (Some s) env args ≡ (if nat_eq (length args) (cells_all p (parameters_at (slice_get p.transactions s.transaction))) && nat_eq (length env) 0 then Some (pos 0) else None)
     go None None [] a b c h = rw a (rw b (rw c refl))
     go None None (x ∷ xs) a b c h = cc

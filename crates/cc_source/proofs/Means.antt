@@ -23,35 +23,43 @@ use Rattle.cc_typed.specs.declared.tree.Statement.{Statement, Empty, Evaluate, D
 use Rattle.cc_typed.specs.declared.types.DataType.{DataType}
 use denote.Hole.Carrier.{hidden}
 
-same-then : {A B : Type 0} (o : Outcome Scope A) (f g : A → Eval Scope B) → ((a : A) (sc : Scope) (l : Left) → f a sc l ≡ g a sc l) → and_then o f ≡ and_then o g
+same-then : {A B : Type 0} (o : Outcome Scope A) (f g : A → Eval Scope B) → ((a : A) (sc : Scope) (l : Left) → f a sc l ≡ g a sc l)
+    → and_then o f ≡ and_then o g
 same-then (Through a sc l) f g h = h a sc l
 same-then (Asked q) f g h = refl
 
 module _ (p : Parts) (call : Caller) where
-  path-row : {n : _} (t : DataType) (path : List ℕ) (row : Row_of-PartStep n) (sc : Scope) (l : Left) → path_along p call t path row sc l ≡ path_of p call t path (items-the_row-PartStep n row) sc l
+  path-row : {n : _} (t : DataType) (path : List ℕ) (row : Row_of-PartStep n) (sc : Scope) (l : Left)
+      → path_along p call t path row sc l ≡ path_of p call t path (items-the_row-PartStep n row) sc l
   unfolding eval
   path-row t path end_of-PartStep sc l = refl
   path-row t path (more_of-PartStep s rest) sc l = same-then (part_number p call t s sc l) _ _ (λ k. path-row (type_after s) (path ++ k ∷ []) rest)
 
-  path-hidden : (at : Location) (sc : Scope) (l : Left) → path_along p call at.of [] (E.hidden-the_row-PartStep-1 at.steps) sc l ≡ path_of p call at.of [] at.steps sc l
-  path-hidden at sc l = path-row at.of [] (E.hidden-the_row-PartStep-1 at.steps) sc l ∙ ap (λ xs. path_of p call at.of [] xs sc l) (items_hidden-the_row-PartStep-1 at.steps)
+  path-hidden : (at : Location) (sc : Scope) (l : Left)
+      → path_along p call at.of [] (E.hidden-the_row-PartStep-1 at.steps) sc l ≡ path_of p call at.of [] at.steps sc l
+  path-hidden at sc l =
+      path-row at.of [] (E.hidden-the_row-PartStep-1 at.steps) sc l ∙ ap (λ xs. path_of p call at.of [] xs sc l) (items_hidden-the_row-PartStep-1 at.steps)
 
-  values-row : {n : _} (t : DataType) (v : Value) (row : Row_of-ChainStep n) (sc : Scope) (l : Left) → value_along p call t v row sc l ≡ value_after p call t v (items-the_row-ChainStep n row) sc l
+  values-row : {n : _} (t : DataType) (v : Value) (row : Row_of-ChainStep n) (sc : Scope) (l : Left)
+      → value_along p call t v row sc l ≡ value_after p call t v (items-the_row-ChainStep n row) sc l
   unfolding eval
   values-row t v end_of-ChainStep sc l = refl
   values-row t v (more_of-ChainStep s rest) sc l = same-then (step_from p call t v s sc l) _ _ (λ w. values-row (type_after_step s) w rest)
 
   -- what stands after the arguments of a call sees their cells alone
-  cells-row : {A : Type 0} {n : _} (row : Row_of-Argument n) (f : List ℤ → Eval Scope A) (sc : Scope) (l : Left) → and_then (arguments p call row sc l) (λ vs. f (flats vs)) ≡ and_then (cells_given p call (items-the_row-Argument n row) sc l) f
+  cells-row : {A : Type 0} {n : _} (row : Row_of-Argument n) (f : List ℤ → Eval Scope A) (sc : Scope) (l : Left)
+      → and_then (arguments p call row sc l) (λ vs. f (flats vs)) ≡ and_then (cells_given p call (items-the_row-Argument n row) sc l) f
   unfolding eval
   cells-row end_of-Argument f sc l = refl
   cells-row (more_of-Argument e t rest) f sc l = evaluated (λ w. cells-row rest (λ cs. f (flat w ++ cs))) (eval p call e sc l)
     where
-      listed : (w : Value) (o : Outcome Scope (List Value)) → and_then (and_then o (λ ws sc1 l1. Through (w ∷ ws) sc1 l1)) (λ vs. f (flats vs)) ≡ and_then o (λ ws. f (flat w ++ flats ws))
+      listed : (w : Value) (o : Outcome Scope (List Value))
+          → and_then (and_then o (λ ws sc1 l1. Through (w ∷ ws) sc1 l1)) (λ vs. f (flats vs)) ≡ and_then o (λ ws. f (flat w ++ flats ws))
       listed w (Through ws sc1 l1) = refl
       listed w (Asked q) = refl
 
-      joined : (w : Value) (o : Outcome Scope (List ℤ)) → and_then o (λ cs. f (flat w ++ cs)) ≡ and_then (and_then o (λ cs sc1 l1. Through (flat w ++ cs) sc1 l1)) f
+      joined : (w : Value) (o : Outcome Scope (List ℤ))
+          → and_then o (λ cs. f (flat w ++ cs)) ≡ and_then (and_then o (λ cs sc1 l1. Through (flat w ++ cs) sc1 l1)) f
       joined w (Through cs sc1 l1) = refl
       joined w (Asked q) = refl
 
@@ -72,7 +80,8 @@ module _ (p : Parts) (call : Caller) where
       evaluated more (Through v sc1 l1) = converted more (converted_value (type_of e) t v sc1 l1)
       evaluated more (Asked q) = refl
 
-  cells-hidden : {A : Type 0} (args : List Argument) (f : List ℤ → Eval Scope A) (sc : Scope) (l : Left) → and_then (arguments p call (E.hidden-the_row-Argument-0 args) sc l) (λ vs. f (flats vs)) ≡ and_then (cells_given p call args sc l) f
+  cells-hidden : {A : Type 0} (args : List Argument) (f : List ℤ → Eval Scope A) (sc : Scope) (l : Left)
+      → and_then (arguments p call (E.hidden-the_row-Argument-0 args) sc l) (λ vs. f (flats vs)) ≡ and_then (cells_given p call args sc l) f
   cells-hidden args f sc l =
       cells-row (E.hidden-the_row-Argument-0 args) f sc l ∙ ap (λ xs. and_then (cells_given p call xs sc l) f) (items_hidden-the_row-Argument-0 args)
 
@@ -88,11 +97,13 @@ module _ (p : Parts) (call : Caller) where
   eval-Constant n t sc l = refl
 
   -- a variable as a whole
-  pub eval-Read : (at : Location) (sc : Scope) (l : Left) → is_straight_location at ≡ true → eval p call (Read at) sc l ≡ Through (value_at sc at.variable) sc l
+  pub eval-Read : (at : Location) (sc : Scope) (l : Left) → is_straight_location at ≡ true
+      → eval p call (Read at) sc l ≡ Through (value_at sc at.variable) sc l
   unfolding eval
   eval-Read at sc l s = ap (λ o. and_then o (value_of at.variable)) (path-hidden at sc l ∙ no-path at sc l s)
 
-  pub eval-Chain : (e : Expression) (steps : List ChainStep) (u : DataType) (sc : Scope) (l : Left) → eval p call (Chain e steps u) sc l ≡ (eval p call e >>= (λ v. value_after p call (type_of e) v steps)) sc l
+  pub eval-Chain : (e : Expression) (steps : List ChainStep) (u : DataType) (sc : Scope) (l : Left)
+      → eval p call (Chain e steps u) sc l ≡ (eval p call e >>= (λ v. value_after p call (type_of e) v steps)) sc l
   unfolding eval E.shape-the_row-Expression-2 E.hidden-the_row-Expression-2 hidden
   eval-Chain e steps u sc l =
       same-then (eval p call e sc l) _ _
@@ -146,7 +157,8 @@ module _ (p : Parts) (call : Caller) where
   unfolding exec
   exec-Block all sc l = ap (λ (f : Eval Scope Flow). f sc l) (exec-hidden all)
 
-  pub exec-TransactionReturn : (e : Option Expression) (t : DataType) (sc : Scope) (l : Left) → exec p call (TransactionReturn e t) sc l ≡ (given p call e t >>= (λ v. pure (Replied v))) sc l
+  pub exec-TransactionReturn : (e : Option Expression) (t : DataType) (sc : Scope) (l : Left)
+      → exec p call (TransactionReturn e t) sc l ≡ (given p call e t >>= (λ v. pure (Replied v))) sc l
   unfolding exec
   exec-TransactionReturn e t sc l = refl
 

@@ -30,10 +30,12 @@ use Rattle.cc_typed.specs.declared.types.DataType.TheVariants.{Void, Single, Arr
 use Rattle.cc_typed.specs.declared.types.ElementType.TheVariants as item
 use Rattle.cc_typed.specs.declared.types.Structure.{Structure}
 
-pub few-cells : (p : Parts) (k : ℕ) (t : Transaction) → is_typed_program p ≡ true → slice_get p.transactions k ≡ Some t → cells_in_all p.structures t.parameters ≤ most_parameter_cells
+pub few-cells : (p : Parts) (k : ℕ) (t : Transaction) → is_typed_program p ≡ true → slice_get p.transactions k ≡ Some t
+    → cells_in_all p.structures t.parameters ≤ most_parameter_cells
 few-cells p k t typed e =
     let parts : is_typed_but_for_sites p ≡ true = and-left _ _ (and-left _ _ typed) in
-    let all : list_all (is_typed_transaction p) p.transactions ≡ true = and-right (has_main p.kinds && has_few_parts p && are_typed_structures p && are_typed_kinds p 0 p.kinds && list_all (is_typed_function p) p.functions) _ parts in
+    let all : list_all (is_typed_transaction p) p.transactions ≡ true =
+    and-right (has_main p.kinds && has_few_parts p && are_typed_structures p && are_typed_kinds p 0 p.kinds && list_all (is_typed_function p) p.functions) _ parts in
     let fine : is_typed_transaction p t ≡ true = passes-get (is_typed_transaction p) p.transactions k t all e in
     let few : are_parameters p t.parameters ≡ true = and-right (is_process_type p t.kind) _ (and-left _ _ fine) in
     leb-true (cells_in_all p.structures t.parameters) most_parameter_cells (and-right _ _ few)
@@ -82,7 +84,8 @@ kind-none p k e = go p.kinds k e
     go (x ∷ xs) (suc k) e = go xs k e
 
 -- the parameters of an accept's transaction
-pub few-parameters : (p : Parts) (k : ℕ) → is_typed_program p ≡ true → cells_in_all p.structures (parameters_at (slice_get p.transactions k)) ≤ most_parameter_cells
+pub few-parameters : (p : Parts) (k : ℕ) → is_typed_program p ≡ true
+    → cells_in_all p.structures (parameters_at (slice_get p.transactions k)) ≤ most_parameter_cells
 few-parameters p k typed = go (slice_get p.transactions k) refl
   where
     go : (o : Option Transaction) → slice_get p.transactions k ≡ o → cells_in_all p.structures (parameters_at o) ≤ most_parameter_cells
@@ -90,7 +93,8 @@ few-parameters p k typed = go (slice_get p.transactions k) refl
     go (Some t) e = few-cells p k t typed e
 
 -- each kind is typed, at its number
-typed-at : (p : Parts) (n : ℕ) (kinds : List Kind) (k : ℕ) (kind : Kind) → are_typed_kinds p n kinds ≡ true → slice_get kinds k ≡ Some kind → is_typed_kind p (n + k) kind ≡ true
+typed-at : (p : Parts) (n : ℕ) (kinds : List Kind) (k : ℕ) (kind : Kind) → are_typed_kinds p n kinds ≡ true → slice_get kinds k ≡ Some kind
+    → is_typed_kind p (n + k) kind ≡ true
 typed-at p n [] zero kind h e = cc
 typed-at p n [] (suc k) kind h e = cc
 typed-at p n (x ∷ xs) zero kind h e =
@@ -103,17 +107,21 @@ typed-at p n (x ∷ xs) (suc k) kind h e =
 
 typed-kind : (p : Parts) (k : ℕ) (kind : Kind) → is_typed_program p ≡ true → slice_get p.kinds k ≡ Some kind → is_typed_kind p k kind ≡ true
 typed-kind p k kind typed e =
-    let kinds : are_typed_kinds p 0 p.kinds ≡ true = and-right (has_main p.kinds && has_few_parts p && are_typed_structures p) _ (and-left _ _ (and-left _ _ (and-left _ _ (and-left _ _ typed)))) in
+    let kinds : are_typed_kinds p 0 p.kinds ≡ true =
+    and-right (has_main p.kinds && has_few_parts p && are_typed_structures p) _ (and-left _ _ (and-left _ _ (and-left _ _ (and-left _ _ typed)))) in
     let number : 0 + k ≡ k = omega arith in
     ap (λ m. is_typed_kind p m kind) (sym number) ∙ typed-at p 0 p.kinds k kind kinds e
 
-pub few-kind-cells : (p : Parts) (k : ℕ) (kind : Kind) → is_typed_program p ≡ true → slice_get p.kinds k ≡ Some kind → cells_in_all p.structures (take kind.parameters kind.variables) ≤ most_parameter_cells
+pub few-kind-cells : (p : Parts) (k : ℕ) (kind : Kind) → is_typed_program p ≡ true → slice_get p.kinds k ≡ Some kind
+    → cells_in_all p.structures (take kind.parameters kind.variables) ≤ most_parameter_cells
 few-kind-cells p k kind typed e =
     let variables : are_variables p kind.parameters kind.variables ≡ true = and-left _ _ (and-left _ _ (typed-kind p k kind typed e)) in
-    let few : are_parameters p (take kind.parameters kind.variables) ≡ true = and-right (are_few kind.variables && nat_le kind.parameters (length kind.variables)) _ (and-left _ _ variables) in
+    let few : are_parameters p (take kind.parameters kind.variables) ≡ true =
+    and-right (are_few kind.variables && nat_le kind.parameters (length kind.variables)) _ (and-left _ _ variables) in
     leb-true (cells_in_all p.structures (take kind.parameters kind.variables)) most_parameter_cells (and-right _ _ few)
 
-pub body-typed : (p : Parts) (k : ℕ) (kind : Kind) → is_typed_program p ≡ true → slice_get p.kinds k ≡ Some kind → list_all (is_typed_statement (in_kind p k kind)) kind.body ≡ true
+pub body-typed : (p : Parts) (k : ℕ) (kind : Kind) → is_typed_program p ≡ true → slice_get p.kinds k ≡ Some kind
+    → list_all (is_typed_statement (in_kind p k kind)) kind.body ≡ true
 body-typed p k kind typed e =
     and-right (are_variables p kind.parameters kind.variables && (is_void kind.result || nat_eq k 0 && is_whole p kind.result)) _ (typed-kind p k kind typed e)
 
@@ -121,12 +129,15 @@ pub variables-there : (p : Parts) (k : ℕ) (kind : Kind) → slice_get p.kinds 
 variables-there p k kind e = ap variables_of e
 
 -- the body of a kind, by how many cells its variables have
-pub body-many : (p : Parts) (kind : Kind) (args : List ℤ) (grants : List Grant) → is_table p.structures ≡ true → most_cells < cells_in_all p.structures kind.variables → body p (Some kind) args grants ≡ Asked (Fault Cells)
+pub body-many : (p : Parts) (kind : Kind) (args : List ℤ) (grants : List Grant) → is_table p.structures ≡ true
+    → most_cells < cells_in_all p.structures kind.variables → body p (Some kind) args grants ≡ Asked (Fault Cells)
 body-many p kind args grants table many =
-    let test : nat_lt most_cells (cells_all p kind.variables) ≡ true = lt-ltb most_cells (cells_all p kind.variables) (omega (arith, many, same-cells p kind.variables table)) in
+    let test : nat_lt most_cells (cells_all p kind.variables) ≡ true =
+    lt-ltb most_cells (cells_all p kind.variables) (omega (arith, many, same-cells p kind.variables table)) in
     ap (λ b. if b then Asked (Fault Cells) else exec_all p (call p most_calls (cells_all p kind.variables)) kind.body (variables_at_start p kind args) (left_at_start grants)) test
 
-pub body-few : (p : Parts) (kind : Kind) (args : List ℤ) (grants : List Grant) (n : ℕ) → is_table p.structures ≡ true → n ≡ cells_in_all p.structures kind.variables → n ≤ most_cells
+pub body-few : (p : Parts) (kind : Kind) (args : List ℤ) (grants : List Grant) (n : ℕ) → is_table p.structures ≡ true
+    → n ≡ cells_in_all p.structures kind.variables → n ≤ most_cells
     → body p (Some kind) args grants ≡ exec_all p (call p most_calls n) kind.body (variables_at_start p kind args) (left_at_start grants)
 body-few p kind args grants n table is few =
     let all : cells_all p kind.variables ≡ n = omega (arith, is, same-cells p kind.variables table) in

@@ -28,7 +28,9 @@ place-row end_of-PartStep u = refl
 place-row (more_of-PartStep s rest) u = refl
 
 place-hidden : (l : Location) → is_straight_place (E.hidden-the_row-PartStep-1 l.steps) l.data_type ≡ is_straight_location l
-place-hidden l = place-row (E.hidden-the_row-PartStep-1 l.steps) l.data_type ∙ ap (λ xs. is_empty xs && is_straight_type l.data_type) (items_hidden-the_row-PartStep-1 l.steps)
+place-hidden l =
+    place-row (E.hidden-the_row-PartStep-1 l.steps) l.data_type
+    ∙ ap (λ xs. is_empty xs && is_straight_type l.data_type) (items_hidden-the_row-PartStep-1 l.steps)
 
 arguments-row : {n : _} (row : Row_of-Argument n) → are_straight_row row ≡ list_all is_straight_argument (items-the_row-Argument n row)
 unfolding is_straight
@@ -58,7 +60,8 @@ pub straight-Read : (l : Location) → is_straight (Read l) ≡ is_straight_loca
 unfolding is_straight
 straight-Read l = place-hidden l
 
-pub straight-Chain : (e : Expression) (steps : List ChainStep) (u : DataType) → is_straight (Chain e steps u) ≡ (is_straight e && list_all is_straight_step steps && is_straight_value u)
+pub straight-Chain : (e : Expression) (steps : List ChainStep) (u : DataType)
+    → is_straight (Chain e steps u) ≡ (is_straight e && list_all is_straight_step steps && is_straight_value u)
 unfolding is_straight E.shape-the_row-Expression-2 E.hidden-the_row-Expression-2 hidden
 straight-Chain e steps u = ap (λ b. is_straight e && b && is_straight_value u) (steps-hidden steps)
 
@@ -82,7 +85,8 @@ pub step-Part : (s : PartStep) → is_straight_step (Part s) ≡ false
 unfolding is_straight
 step-Part s = refl
 
-pub step-Call : (trans : ℕ) (args : List Argument) (u : DataType) → is_straight_step (Call trans args u) ≡ (list_all is_straight_argument args && is_straight_value u)
+pub step-Call : (trans : ℕ) (args : List Argument) (u : DataType)
+    → is_straight_step (Call trans args u) ≡ (list_all is_straight_argument args && is_straight_value u)
 unfolding is_straight
 step-Call trans args u = ap (λ b. b && is_straight_value u) (arguments-hidden args)
 
@@ -211,7 +215,8 @@ pub statement-Declare : (x : ℕ) (t : DataType) → is_straight_statement (Decl
 unfolding is_straight_statement
 statement-Declare x t = refl
 
-pub statement-TransactionReturn : (e : Option Expression) (t : DataType) → is_straight_statement (TransactionReturn e t) ≡ (is_straight_option e && is_straight_value t)
+pub statement-TransactionReturn : (e : Option Expression) (t : DataType)
+    → is_straight_statement (TransactionReturn e t) ≡ (is_straight_option e && is_straight_value t)
 unfolding is_straight_statement
 statement-TransactionReturn e t = refl
 
@@ -221,8 +226,11 @@ statement-Block all = row-statements _ (S.hidden-the_row-Statement-0 all) ∙ ap
 
 pub statement-Accept : (part : AcceptPart) → is_straight_statement (Accept part) ≡ list_all is_straight_statement part.block
 unfolding is_straight_statement
-statement-Accept part = row-statements _ (S.hidden-the_row-Statement-0 part.block) ∙ ap (list_all is_straight_statement) (items_hidden-the_row-Statement-0 part.block)
+statement-Accept part =
+    row-statements _ (S.hidden-the_row-Statement-0 part.block) ∙ ap (list_all is_straight_statement) (items_hidden-the_row-Statement-0 part.block)
 
-pub ruleset straight_expressions = (straight-Constant, straight-GetChar, straight-Read, straight-Chain, straight-Negate, straight-Not, straight-Plus, straight-Parenthesized, straight-ChangeBefore, straight-ChangeAfter, straight-Arithmetic, straight-Compare, straight-Both, straight-Either, straight-Choose, straight-Assign, straight-Update, straight-CallFunction, straight-CreateProcess, straight-Within, straight-PutChar, straight-PrintFormat, step-Part, step-Call, step-Send)
+pub ruleset straight_expressions =
+    (straight-Constant, straight-GetChar, straight-Read, straight-Chain, straight-Negate, straight-Not, straight-Plus, straight-Parenthesized, straight-ChangeBefore, straight-ChangeAfter, straight-Arithmetic, straight-Compare, straight-Both, straight-Either, straight-Choose, straight-Assign, straight-Update, straight-CallFunction, straight-CreateProcess, straight-Within, straight-PutChar, straight-PrintFormat, step-Part, step-Call, step-Send)
 
-pub ruleset straight_statements = (statement-Empty, statement-Evaluate, statement-Declare, statement-TransactionReturn, statement-Block, statement-Accept, statement-Initialize, statement-If, statement-IfElse, statement-While, statement-DoWhile, statement-For, statement-Break, statement-Continue, statement-Return, statement-Finish, statement-Delay, statement-Select)
+pub ruleset straight_statements =
+    (statement-Empty, statement-Evaluate, statement-Declare, statement-TransactionReturn, statement-Block, statement-Accept, statement-Initialize, statement-If, statement-IfElse, statement-While, statement-DoWhile, statement-For, statement-Break, statement-Continue, statement-Return, statement-Finish, statement-Delay, statement-Select)

@@ -129,4 +129,5 @@ statement_weights-member [] k d lt = absurd (omega arith)
 statement_weights-member (s ∷ rest) zero d lt = omega arith
 statement_weights-member (s ∷ rest) (suc k) d lt = omega (arith, statement_weights-member rest k d (omega arith))
 
-pub ruleset weighs = (weight-Chain, weight-Parenthesized, weight-Assign, weight-PutChar, weight-CreateProcess, step_weight-Call, weights-member, step_weights-member, statement_weight-Block, statement_weight-Accept, statement_weights-member)
+pub ruleset weighs =
+    (weight-Chain, weight-Parenthesized, weight-Assign, weight-PutChar, weight-CreateProcess, step_weight-Call, weights-member, step_weights-member, statement_weight-Block, statement_weight-Accept, statement_weights-member)

@@ -75,10 +75,12 @@ module _ (p : Parts) (typed : is_typed_program p ≡ true) (straight : is_straig
   parts = and-left _ _ (and-left _ _ typed)
 
   -- the transaction and the site of an accept are there
-  accept-known : (s : Surroundings) (site : ℕ) → is_accepted s (slice_get p.sites site) ≡ true → (is_some (slice_get (map (shape_of p) p.transactions) (transaction_at (slice_get p.sites site))) ≡ true) × (site < length p.sites)
+  accept-known : (s : Surroundings) (site : ℕ) → is_accepted s (slice_get p.sites site) ≡ true
+      → (is_some (slice_get (map (shape_of p) p.transactions) (transaction_at (slice_get p.sites site))) ≡ true) × (site < length p.sites)
   accept-known s site h = go (slice_get p.sites site) refl h
     where
-      go : (o : Option Site) → slice_get p.sites site ≡ o → is_accepted s o ≡ true → (is_some (slice_get (map (shape_of p) p.transactions) (transaction_at o)) ≡ true) × (site < length p.sites)
+      go : (o : Option Site) → slice_get p.sites site ≡ o → is_accepted s o ≡ true
+          → (is_some (slice_get (map (shape_of p) p.transactions) (transaction_at o)) ≡ true) × (site < length p.sites)
       go None e h = cc
       go (Some found) e h =
           let sites = and-right (is_typed_but_for_sites p) _ (and-left _ _ typed) in
@@ -96,7 +98,8 @@ module _ (p : Parts) (typed : is_typed_program p ≡ true) (straight : is_straig
     abbrev Ended_so : Flow → Type 0
     Ended_so flow = Unit {0}
 
-    unless_left-safe : (flow : Flow) (q : Eval Scope Flow) (sc : Scope) (l : Left) → Ones sc → Safe p Ended_so (q sc l) → Safe p Ended_so (unless_left flow q sc l)
+    unless_left-safe : (flow : Flow) (q : Eval Scope Flow) (sc : Scope) (l : Left) → Ones sc → Safe p Ended_so (q sc l)
+        → Safe p Ended_so (unless_left flow q sc l)
     unless_left-safe Ended q sc l s h = h
     unless_left-safe Broke q sc l s h = (s, tt)
     unless_left-safe Continued q sc l s h = (s, tt)
@@ -105,9 +108,12 @@ module _ (p : Parts) (typed : is_typed_program p ≡ true) (straight : is_straig
     unless_left-safe Finished q sc l s h = (s, tt)
 
     taken-ones : (site : ℕ) (g : Grant) (sc : Scope) → Ones sc → Ones (scope_taken p site g sc)
-    taken-ones site g sc s = ones-set_from (first_at (slice_get p.sites site)) (unflats (layouts_of p.structures (parameters_at (transaction_of p site))) (args_taken g)) sc (unflats-ones p.structures (parameters_at (transaction_of p site)) (args_taken g) (parameters-straight site)) s
+    taken-ones site g sc s =
+        ones-set_from (first_at (slice_get p.sites site)) (unflats (layouts_of p.structures (parameters_at (transaction_of p site))) (args_taken g)) sc (unflats-ones p.structures (parameters_at (transaction_of p site)) (args_taken g) (parameters-straight site)) s
 
-    select-servable : (site : ℕ) (sc : Scope) → (is_some (slice_get (map (shape_of p) p.transactions) (transaction_at (slice_get p.sites site))) ≡ true) × (site < length p.sites) → IsPerformable p (request.Select ((0, alternative_at p site sc) ∷ []))
+    select-servable : (site : ℕ) (sc : Scope)
+        → (is_some (slice_get (map (shape_of p) p.transactions) (transaction_at (slice_get p.sites site))) ≡ true) × (site < length p.sites)
+        → IsPerformable p (request.Select ((0, alternative_at p site sc) ∷ []))
     select-servable site sc known =
         (((λ e. cc), one-rises (0, alternative_at p site sc), All-cons (λ a. IsAlternativeOf (meaning p) a.1) (0, alternative_at p site sc) [] known.0 (All-nil (λ a. IsAlternativeOf (meaning p) a.1))), All-cons (λ a. IsAtSite (length p.sites) a.1) (0, alternative_at p site sc) [] known.1 (All-nil (λ a. IsAtSite (length p.sites) a.1)), tt)
 
@@ -115,7 +121,8 @@ module _ (p : Parts) (typed : is_typed_program p ≡ true) (straight : is_straig
     reply-safe cs sc l s =
         safe p (λ g. Unit {0}) (λ u. Unit {0}) (ask (request.Reply cs) sc l) _ (ask-safe p (request.Reply cs) sc l s (tt, tt, tt)) (λ g sc1 l1 s1 _. (s1, tt))
 
-    accept-safe : (s : Surroundings) (site : ℕ) (block : Eval Scope Flow) (sc : Scope) (l : Left) → is_accepted s (slice_get p.sites site) ≡ true → Ones sc → ((sc : Scope) (l : Left) → Ones sc → Safe p Ended_so (block sc l)) → Safe p Ended_so (accepted p call site block sc l)
+    accept-safe : (s : Surroundings) (site : ℕ) (block : Eval Scope Flow) (sc : Scope) (l : Left) → is_accepted s (slice_get p.sites site) ≡ true → Ones sc
+        → ((sc : Scope) (l : Left) → Ones sc → Safe p Ended_so (block sc l)) → Safe p Ended_so (accepted p call site block sc l)
     accept-safe s site block sc l h single inner =
         let alts : List (ℕ × Alt) = (0, alternative_at p site sc) ∷ [] in
         safe p (λ g. Unit {0}) Ended_so (select alts sc l) _ (ask-safe p (request.Select alts) sc l single (select-servable site sc (accept-known s site h)))
@@ -126,7 +133,8 @@ module _ (p : Parts) (typed : is_typed_program p ≡ true) (straight : is_straig
       abbrev around : Option DataType → Surroundings
       around replies = record { parts = p; variables = ts; kind = kind; result = result; replies = replies; may_break = false; may_continue = false }
 
-      given-safe : (replies : Option DataType) (e : Option Expression) (t : DataType) (sc : Scope) (l : Left) → is_straight_option e ≡ true → is_straight_value t ≡ true → is_given (around replies) e t ≡ true → Ones sc → Safe p (λ v. Unit {0}) (given p call e t sc l)
+      given-safe : (replies : Option DataType) (e : Option Expression) (t : DataType) (sc : Scope) (l : Left) → is_straight_option e ≡ true
+          → is_straight_value t ≡ true → is_given (around replies) e t ≡ true → Ones sc → Safe p (λ v. Unit {0}) (given p call e t sc l)
       given-safe replies None t sc l se st h single = (single, tt)
       given-safe replies (Some e) t sc l se st h single =
           safe p (IsOf p (type_of e)) (λ v. Unit {0}) (eval p call e sc l) (λ v. converted_value (type_of e) t v)
@@ -136,10 +144,13 @@ module _ (p : Parts) (typed : is_typed_program p ≡ true) (straight : is_straig
       mutual
         unfolding exec is_straight_statement is_typed_statement
 
-        exec-safe : (replies : Option DataType) (a : Statement) (sc : Scope) (l : Left) → is_straight_statement a ≡ true → is_typed_statement (around replies) a ≡ true → Ones sc → Safe p Ended_so (exec p call a sc l)
+        exec-safe : (replies : Option DataType) (a : Statement) (sc : Scope) (l : Left) → is_straight_statement a ≡ true
+            → is_typed_statement (around replies) a ≡ true → Ones sc → Safe p Ended_so (exec p call a sc l)
         exec-safe replies Empty sc l s h single = (single, tt)
-        exec-safe replies (Evaluate e) sc l s h single = safe p (IsOf p (type_of e)) Ended_so (eval p call e sc l) _ (eval-safe p call ts kind result replies e sc l s h single) (λ v sc1 l1 s1 _. (s1, tt))
-        exec-safe replies (Declare x t) sc l s h single = (ones-set sc x (zero_in p t) single (subst (λ m. HasLayout m (zero_in p t)) (straight-one p.structures t s) (zero-has (layout_of p.structures t))), tt)
+        exec-safe replies (Evaluate e) sc l s h single =
+            safe p (IsOf p (type_of e)) Ended_so (eval p call e sc l) _ (eval-safe p call ts kind result replies e sc l s h single) (λ v sc1 l1 s1 _. (s1, tt))
+        exec-safe replies (Declare x t) sc l s h single =
+            (ones-set sc x (zero_in p t) single (subst (λ m. HasLayout m (zero_in p t)) (straight-one p.structures t s) (zero-has (layout_of p.structures t))), tt)
         exec-safe replies (Initialize x t e) sc l s h single = cc
         exec-safe replies (Block' _ all) sc l s h single = row-safe replies all sc l s h single
         exec-safe replies (branch c a) sc l s h single = cc
@@ -159,19 +170,22 @@ module _ (p : Parts) (typed : is_typed_program p ≡ true) (straight : is_straig
             (λ sc1 l1 s1. row-safe _ block sc1 l1 s (and-right (is_accepted (around replies) (slice_get p.sites site)) _ h) s1)
         exec-safe replies (Select' _ all) sc l s h single = cc
 
-        row-safe : {n : _} (replies : Option DataType) (row : Row_of-Statement n) (sc : Scope) (l : Left) → are_straight_statements row ≡ true → are_typed_statements (around replies) row ≡ true → Ones sc → Safe p Ended_so (exec_row p call row sc l)
+        row-safe : {n : _} (replies : Option DataType) (row : Row_of-Statement n) (sc : Scope) (l : Left) → are_straight_statements row ≡ true
+            → are_typed_statements (around replies) row ≡ true → Ones sc → Safe p Ended_so (exec_row p call row sc l)
         row-safe replies end_of-Statement sc l s h single = (single, tt)
         row-safe replies (more_of-Statement a rest) sc l s h single =
             safe p Ended_so Ended_so (exec p call a sc l) _ (exec-safe replies a sc l (and-left _ _ s) (and-left _ _ h) single)
             (λ flow sc1 l1 s1 _. unless_left-safe flow (exec_row p call rest) sc1 l1 s1 (row-safe replies rest sc1 l1 (and-right (is_straight_statement a) _ s) (and-right (is_typed_statement (around replies) a) _ h) s1))
 
-      all-safe : (all : List Statement) (sc : Scope) (l : Left) → list_all is_straight_statement all ≡ true → list_all (is_typed_statement (around None)) all ≡ true → Ones sc → Safe p Ended_so (exec_all p call all sc l)
+      all-safe : (all : List Statement) (sc : Scope) (l : Left) → list_all is_straight_statement all ≡ true
+          → list_all (is_typed_statement (around None)) all ≡ true → Ones sc → Safe p Ended_so (exec_all p call all sc l)
       all-safe [] sc l s h single = (single, tt)
       all-safe (a ∷ rest) sc l s h single =
           safe p Ended_so Ended_so (exec p call a sc l) _ (exec-safe None a sc l (and-left _ _ s) (and-left _ _ h) single)
           (λ flow sc1 l1 s1 _. unless_left-safe flow (exec_all p call rest) sc1 l1 s1 (all-safe rest sc1 l1 (and-right (is_straight_statement a) _ s) (and-right (is_typed_statement (around None) a) _ h) s1))
 
-  kind-typed : (number : ℕ) (kinds : List Kind) (k : ℕ) (kind : Kind) → are_typed_kinds p number kinds ≡ true → slice_get kinds k ≡ Some kind → (j : ℕ) × (is_typed_kind p j kind ≡ true)
+  kind-typed : (number : ℕ) (kinds : List Kind) (k : ℕ) (kind : Kind) → are_typed_kinds p number kinds ≡ true → slice_get kinds k ≡ Some kind
+      → (j : ℕ) × (is_typed_kind p j kind ≡ true)
   kind-typed number [] zero kind h e = cc
   kind-typed number [] (suc k) kind h e = cc
   kind-typed number (x ∷ xs) zero kind h e = let same : x ≡ kind = cc in (number, subst (λ y. is_typed_kind p number y ≡ true) same (and-left _ _ h))
@@ -181,14 +195,16 @@ module _ (p : Parts) (typed : is_typed_program p ≡ true) (straight : is_straig
   asked-known (Through v sc l) good s = (tt, tt, tt)
   asked-known (Asked q) good s = s
 
-  body-known : (o : Option Kind) (k : ℕ) → slice_get p.kinds k ≡ o → (args : List ℤ) (grants : List Grant) → IsPerformable p (asked_by request.Done (body p o args grants))
+  body-known : (o : Option Kind) (k : ℕ) → slice_get p.kinds k ≡ o → (args : List ℤ) (grants : List Grant)
+      → IsPerformable p (asked_by request.Done (body p o args grants))
   body-known None k e args grants = (tt, tt, tt)
   body-known (Some kind) k e args grants = go (nat_lt most_cells (cells_all p kind.variables))
     where
       kinds : are_typed_kinds p 0 p.kinds ≡ true
       kinds = and-right (has_main p.kinds && has_few_parts p && are_typed_structures p) _ (and-left _ _ (and-left _ _ parts))
 
-      go : (b : Bool) → IsPerformable p (asked_by request.Done (if b then Asked (request.Fault Cells) else exec_all p (call p most_calls (cells_all p kind.variables)) kind.body (variables_at_start p kind args) (left_at_start grants)))
+      go : (b : Bool)
+          → IsPerformable p (asked_by request.Done (if b then Asked (request.Fault Cells) else exec_all p (call p most_calls (cells_all p kind.variables)) kind.body (variables_at_start p kind args) (left_at_start grants)))
       go true = (tt, tt, tt)
       go false =
           let j = kind-typed 0 p.kinds k kind kinds e in
@@ -211,7 +227,8 @@ module _ (p : Parts) (typed : is_typed_program p ≡ true) (straight : is_straig
       past-end (x ∷ xs) (suc k) h = past-end xs k (omega arith)
 
   pub keeps-form : WellFormed (meaning p)
-  keeps-form = record { main = main-of p p.kinds (and-left _ _ (and-left _ _ (and-left _ _ (and-left _ _ (and-left _ _ parts))))); requests = λ kind args grants exists proper. (asks-known kind args grants).0 }
+  keeps-form =
+      record { main = main-of p p.kinds (and-left _ _ (and-left _ _ (and-left _ _ (and-left _ _ (and-left _ _ parts))))); requests = λ kind args grants exists proper. (asks-known kind args grants).0 }
 
   pub keeps-supported : AsksSupported (meaning p)
   keeps-supported kind args grants exists proper = (asks-known kind args grants).2

@@ -116,12 +116,14 @@ zeros-ones p (t ∷ us) h =
       zeros-ones p us (and-right (is_straight_type t) _ h),
     )
 
-pub kind-cells : (p : Parts) (kinds : List Kind) (k n : ℕ) → k < length kinds → n ≡ cells_all p (kind_parameters (slice_get kinds k)) → slice_get (map (parameter_cells p) kinds) k ≡ Some n
+pub kind-cells : (p : Parts) (kinds : List Kind) (k n : ℕ) → k < length kinds → n ≡ cells_all p (kind_parameters (slice_get kinds k))
+    → slice_get (map (parameter_cells p) kinds) k ≡ Some n
 kind-cells p [] k n lt e = absurd (omega arith)
 kind-cells p (x ∷ xs) zero n lt e = ap Some (sym e)
 kind-cells p (x ∷ xs) (suc k) n lt e = kind-cells p xs k n (omega arith) e
 
-pub takes-cells : (p : Parts) (ts : List Transaction) (k n : ℕ) (a b : DataType) → is_called (slice_get ts k) a b ≡ true → n ≡ cells_all p (parameters_at (slice_get ts k)) → option_map (λ (shape : Shape). shape.args) (slice_get (map (shape_of p) ts) k) ≡ Some n
+pub takes-cells : (p : Parts) (ts : List Transaction) (k n : ℕ) (a b : DataType) → is_called (slice_get ts k) a b ≡ true
+    → n ≡ cells_all p (parameters_at (slice_get ts k)) → option_map (λ (shape : Shape). shape.args) (slice_get (map (shape_of p) ts) k) ≡ Some n
 takes-cells p [] zero n a b h e = cc
 takes-cells p [] (suc k) n a b h e = cc
 takes-cells p (t ∷ ts) zero n a b h e = ap Some (sym e)
@@ -137,7 +139,8 @@ module _ (p : Parts) where
   Safe good (Through v scope left) = Ones scope × good v
   Safe good (Asked q) = IsPerformable q
 
-  pub safe : {A B : Type 0} (first : A → Type 0) (good : B → Type 0) (o : Outcome Scope A) (f : A → Eval Scope B) → Safe first o → ((v : A) (sc : Scope) (l : Left) → Ones sc → first v → Safe good (f v sc l)) → Safe good (and_then o f)
+  pub safe : {A B : Type 0} (first : A → Type 0) (good : B → Type 0) (o : Outcome Scope A) (f : A → Eval Scope B) → Safe first o
+      → ((v : A) (sc : Scope) (l : Left) → Ones sc → first v → Safe good (f v sc l)) → Safe good (and_then o f)
   safe first good (Through v sc l) f s g = g v sc l s.0 s.1
   safe first good (Asked q) f s g = s
 

@@ -246,12 +246,13 @@ module _ (p : Parts) (call : Caller) where
       vs ← arguments args
       n ← create k (flats vs)
       pure (Number n)
-    eval (Within' _ (more_of-Expression d end_of-Expression) _ (more_of-Expression e end_of-Expression) trans _ args _ (more_of-Expression other end_of-Expression) t) = do
-      wait ← eval d
-      v ← eval e
-      vs ← arguments args
-      cs ← transact_within trans (cells_of_type p t) (number wait) (number v) (flats vs)
-      in_time p t (eval other >>= converted_value (type_of other) t) cs
+    eval (Within' _ (more_of-Expression d end_of-Expression) _ (more_of-Expression e end_of-Expression) trans _ args _ (more_of-Expression other end_of-Expression) t) =
+        do
+          wait ← eval d
+          v ← eval e
+          vs ← arguments args
+          cs ← transact_within trans (cells_of_type p t) (number wait) (number v) (flats vs)
+          in_time p t (eval other >>= converted_value (type_of other) t) cs
     eval (put_char e) = do
       v ← eval e
       n ← put_byte (number v)

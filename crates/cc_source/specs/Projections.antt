@@ -33,17 +33,23 @@ transactions-straight p h = and-right (list_all is_straight_kind p.kinds) _ (and
 sites-straight : (p : Parts) → is_straight_program p ≡ true → list_all is_straight_site p.sites ≡ true
 sites-straight p h = and-right (list_all is_straight_kind p.kinds && list_all is_straight_transaction p.transactions) _ (and-left _ _ h)
 
-pub transaction-parameters : (p : Parts) (k : ℕ) (t : Transaction) → is_straight_program p ≡ true → slice_get p.transactions k ≡ Some t → list_all is_straight_type t.parameters ≡ true
+pub transaction-parameters : (p : Parts) (k : ℕ) (t : Transaction) → is_straight_program p ≡ true → slice_get p.transactions k ≡ Some t
+    → list_all is_straight_type t.parameters ≡ true
 transaction-parameters p k t h e = and-left _ _ (passes-get is_straight_transaction p.transactions k t (transactions-straight p h) e)
 
-pub transaction-value : (p : Parts) (k : ℕ) (t : Transaction) → is_straight_program p ≡ true → slice_get p.transactions k ≡ Some t → is_straight_value t.value ≡ true
-transaction-value p k t h e = and-right (list_all is_straight_type t.parameters) _ (passes-get is_straight_transaction p.transactions k t (transactions-straight p h) e)
+pub transaction-value : (p : Parts) (k : ℕ) (t : Transaction) → is_straight_program p ≡ true → slice_get p.transactions k ≡ Some t
+    → is_straight_value t.value ≡ true
+transaction-value p k t h e =
+    and-right (list_all is_straight_type t.parameters) _ (passes-get is_straight_transaction p.transactions k t (transactions-straight p h) e)
 
-pub kind-variables : (p : Parts) (k : ℕ) (kind : Kind) → is_straight_program p ≡ true → slice_get p.kinds k ≡ Some kind → list_all is_straight_type kind.variables ≡ true
+pub kind-variables : (p : Parts) (k : ℕ) (kind : Kind) → is_straight_program p ≡ true → slice_get p.kinds k ≡ Some kind
+    → list_all is_straight_type kind.variables ≡ true
 kind-variables p k kind h e = and-left _ _ (and-left _ _ (passes-get is_straight_kind p.kinds k kind (kinds-straight p h) e))
 
-pub kind-body : (p : Parts) (k : ℕ) (kind : Kind) → is_straight_program p ≡ true → slice_get p.kinds k ≡ Some kind → list_all is_straight_statement kind.body ≡ true
-kind-body p k kind h e = and-right (list_all is_straight_type kind.variables && is_straight_value kind.result) _ (passes-get is_straight_kind p.kinds k kind (kinds-straight p h) e)
+pub kind-body : (p : Parts) (k : ℕ) (kind : Kind) → is_straight_program p ≡ true → slice_get p.kinds k ≡ Some kind
+    → list_all is_straight_statement kind.body ≡ true
+kind-body p k kind h e =
+    and-right (list_all is_straight_type kind.variables && is_straight_value kind.result) _ (passes-get is_straight_kind p.kinds k kind (kinds-straight p h) e)
 
 pub site-straight : (p : Parts) (k : ℕ) (s : Site) → is_straight_program p ≡ true → slice_get p.sites k ≡ Some s → is_straight_site s ≡ true
 site-straight p k s h e = passes-get is_straight_site p.sites k s (sites-straight p h) e
@@ -56,13 +62,16 @@ kind-there p (x ∷ xs) (suc k) n e none = kind-there p xs k n e none
 pub kind-exists : (p : Parts) (k n : ℕ) → HasKind (meaning p) k n → slice_get p.kinds k ≡ None → ⊥
 kind-exists p k n e none = kind-there p p.kinds k n e none
 
-pub arguments-value : (args : List Argument) (k : ℕ) (d : Argument) → list_all is_straight_argument args ≡ true → k < length args → is_straight (get_or args k d).value ≡ true
+pub arguments-value : (args : List Argument) (k : ℕ) (d : Argument) → list_all is_straight_argument args ≡ true → k < length args
+    → is_straight (get_or args k d).value ≡ true
 arguments-value args k d h lt = and-left _ _ (passes-at is_straight_argument args k d h lt)
 
-pub arguments-type : (args : List Argument) (k : ℕ) (d : Argument) → list_all is_straight_argument args ≡ true → k < length args → is_straight_value (get_or args k d).data_type ≡ true
+pub arguments-type : (args : List Argument) (k : ℕ) (d : Argument) → list_all is_straight_argument args ≡ true → k < length args
+    → is_straight_value (get_or args k d).data_type ≡ true
 arguments-type args k d h lt = type-straight _ (and-right (is_straight (get_or args k d).value) _ (passes-at is_straight_argument args k d h lt))
 
-pub statements-at : (all : List Statement) (k : ℕ) (d : Statement) → list_all is_straight_statement all ≡ true → k < length all → is_straight_statement (get_or all k d) ≡ true
+pub statements-at : (all : List Statement) (k : ℕ) (d : Statement) → list_all is_straight_statement all ≡ true → k < length all
+    → is_straight_statement (get_or all k d) ≡ true
 statements-at all k d h lt = passes-at is_straight_statement all k d h lt
 
 pub ruleset straight_parts = (site-straight, kind-exists, transaction-parameters, transaction-value, kind-variables, kind-body)

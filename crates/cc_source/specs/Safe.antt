@@ -57,7 +57,8 @@ module _ (p : Parts) where
   process-of k n = tt
 
   -- a value that is converted for an assignment is one of the type that it is assigned to
-  pub converted-safe : (t u : DataType) (v : Value) (sc : Scope) (l : Left) → is_straight_value t ≡ true → is_straight_type u ≡ true → is_assignable t u ≡ true → Ones sc → IsOf p t v → Safe p (IsOf p u) (converted_value t u v sc l)
+  pub converted-safe : (t u : DataType) (v : Value) (sc : Scope) (l : Left) → is_straight_value t ≡ true → is_straight_type u ≡ true
+      → is_assignable t u ≡ true → Ones sc → IsOf p t v → Safe p (IsOf p u) (converted_value t u v sc l)
   unfolding is_straight_value is_straight_type converted is_char is_int is_long element_within HasLayout
   converted-safe (Single (item.Number numeric.Int)) (Single (item.Number numeric.Int)) v sc l st su h s fits = (s, tt)
   converted-safe (Single (item.Number numeric.Int)) (Single (item.Number numeric.Char)) v sc l st su h s fits = cc
@@ -98,7 +99,8 @@ module _ (p : Parts) (call : Caller) (ts : List DataType) (kind : Option ℕ) (r
   abbrev here : Surroundings
   here = record { parts = p; variables = ts; kind = kind; result = result; replies = replies; may_break = false; may_continue = false }
 
-  transact-safe : (trans : ℕ) (t : DataType) (v : Value) (vs : List Value) (sc : Scope) (l : Left) → Ones sc → argument_cells (meaning p) trans ≡ Some (length (flats vs)) → Safe p (IsOf p t) (transacted p trans t v vs sc l)
+  transact-safe : (trans : ℕ) (t : DataType) (v : Value) (vs : List Value) (sc : Scope) (l : Left) → Ones sc
+      → argument_cells (meaning p) trans ≡ Some (length (flats vs)) → Safe p (IsOf p t) (transacted p trans t v vs sc l)
   transact-safe trans t v vs sc l s takes =
       safe p (λ cs. Unit {0}) (IsOf p t) (transact trans (cells (layout_of p.structures t)) (number v) (flats vs) sc l) _
       (safe p (λ c. Unit {0}) (λ cs. Unit {0}) (or_fault (callee (number v)) sc l) _ (fault-safe p (callee (number v)) sc l s)
@@ -116,7 +118,8 @@ module _ (p : Parts) (call : Caller) (ts : List DataType) (kind : Option ℕ) (r
   place-straight (more_of-PartStep a rest) u h = cc
 
   -- a straight place is a variable as a whole
-  path-none : {n : _} (t : DataType) (row : Row_of-PartStep n) (u : DataType) (sc : Scope) (l : Left) → is_straight_place row u ≡ true → path_along p call t [] row sc l ≡ Through [] sc l
+  path-none : {n : _} (t : DataType) (row : Row_of-PartStep n) (u : DataType) (sc : Scope) (l : Left) → is_straight_place row u ≡ true
+      → path_along p call t [] row sc l ≡ Through [] sc l
   unfolding eval is_straight_place
   path-none t end_of-PartStep u sc l h = refl
   path-none t (more_of-PartStep a rest) u sc l h = cc
@@ -155,7 +158,8 @@ module _ (p : Parts) (call : Caller) (ts : List DataType) (kind : Option ℕ) (r
   from-one : (u : DataType) (w : Value) → is_straight_type u ≡ true → IsOne w → IsOf p u w
   from-one u w h one = subst (λ m. HasLayout m w) (sym (straight-one p.structures u h)) one
 
-  create-safe : (k : ℕ) (vs : List Value) (sc : Scope) (l : Left) → Ones sc → k < length p.kinds → TakesAll (kind_parameters (slice_get p.kinds k)) vs → Safe p (λ n. Unit {0}) (create k (flats vs) sc l)
+  create-safe : (k : ℕ) (vs : List Value) (sc : Scope) (l : Left) → Ones sc → k < length p.kinds → TakesAll (kind_parameters (slice_get p.kinds k)) vs
+      → Safe p (λ n. Unit {0}) (create k (flats vs) sc l)
   create-safe k vs sc l s there e =
       safe p (λ g. Unit {0}) (λ n. Unit {0}) (ask (request.Create k (flats vs)) sc l) _ (ask-safe p (request.Create k (flats vs)) sc l s (kind-cells p p.kinds k (length (flats vs)) there e, tt, tt))
       (λ g sc1 l1 s1 _. (s1, tt))
@@ -167,7 +171,8 @@ module _ (p : Parts) (call : Caller) (ts : List DataType) (kind : Option ℕ) (r
   mutual
     unfolding eval is_straight is_straight_place is_typed type_of type_after_step
 
-    pub eval-safe : (e : Expression) (sc : Scope) (l : Left) → is_straight e ≡ true → is_typed here e ≡ true → Ones sc → Safe p (IsOf p (type_of e)) (eval p call e sc l)
+    pub eval-safe : (e : Expression) (sc : Scope) (l : Left) → is_straight e ≡ true → is_typed here e ≡ true → Ones sc
+        → Safe p (IsOf p (type_of e)) (eval p call e sc l)
     eval-safe (Constant n t) sc l s h ones = (ones, number-any t n)
     eval-safe GetChar sc l s h ones = cc
     eval-safe (Read' x t _ steps u) sc l s h ones =
@@ -206,19 +211,22 @@ module _ (p : Parts) (call : Caller) (ts : List DataType) (kind : Option ℕ) (r
         safe p (TakesAll (kind_parameters (slice_get p.kinds k))) (IsOf p (of_process k)) _ _
         (args-safe args (kind_parameters (slice_get p.kinds k)) sc l s (and-right (is_process_type p k) _ h) ones)
         (λ vs sc1 l1 s1 e. safe p (λ n. Unit {0}) (IsOf p (of_process k)) (create k (flats vs) sc1 l1) _ (create-safe k vs sc1 l1 s1 there e) (λ n sc2 l2 s2 _. (s2, process-of p k n)))
-    eval-safe (Within' _ (more_of-Expression d end_of-Expression) _ (more_of-Expression e end_of-Expression) trans _ args _ (more_of-Expression o end_of-Expression) t) sc l s h ones = cc
+    eval-safe (Within' _ (more_of-Expression d end_of-Expression) _ (more_of-Expression e end_of-Expression) trans _ args _ (more_of-Expression o end_of-Expression) t) sc l s h ones =
+        cc
     eval-safe (put_char e) sc l s h ones =
         safe p (IsOf p (type_of e)) (IsOf p Int) (eval p call e sc l) _ (eval-safe e sc l s (and-left _ _ h) ones)
         (λ v sc1 l1 s1 _. safe p (λ b. Unit {0}) (IsOf p Int) (put_byte (number v) sc1 l1) _ (byte-safe (number v) sc1 l1 s1) (λ b sc2 l2 s2 _. (s2, number-of p b)))
     eval-safe (PrintFormat' f _ args) sc l s h ones = cc
 
-    steps-safe : {n : _} (t : DataType) (v : Value) (row : Row_of-ChainStep n) (u : DataType) (sc : Scope) (l : Left) → are_straight_steps row ≡ true → are_typed_steps here t row u ≡ true → Ones sc → IsOf p t v → Safe p (IsOf p u) (value_along p call t v row sc l)
+    steps-safe : {n : _} (t : DataType) (v : Value) (row : Row_of-ChainStep n) (u : DataType) (sc : Scope) (l : Left) → are_straight_steps row ≡ true
+        → are_typed_steps here t row u ≡ true → Ones sc → IsOf p t v → Safe p (IsOf p u) (value_along p call t v row sc l)
     steps-safe t v end_of-ChainStep u sc l s h ones fits = (ones, subst (λ w. IsOf p w v) (same-type t u h) fits)
     steps-safe t v (more_of-ChainStep c rest) u sc l s h ones fits =
         safe p (IsOf p (type_after_step c)) (IsOf p u) (step_from p call t v c sc l) _ (step-safe t v c sc l (and-left _ _ s) (and-left _ _ h) ones)
         (λ w sc1 l1 s1 good. steps-safe (type_after_step c) w rest u sc1 l1 (and-right (is_straight_step c) _ s) (and-right (is_typed_step here t c) _ h) s1 good)
 
-    step-safe : (t : DataType) (v : Value) (c : ChainStep) (sc : Scope) (l : Left) → is_straight_step c ≡ true → is_typed_step here t c ≡ true → Ones sc → Safe p (IsOf p (type_after_step c)) (step_from p call t v c sc l)
+    step-safe : (t : DataType) (v : Value) (c : ChainStep) (sc : Scope) (l : Left) → is_straight_step c ≡ true → is_typed_step here t c ≡ true → Ones sc
+        → Safe p (IsOf p (type_after_step c)) (step_from p call t v c sc l)
     step-safe t v (Part a) sc l s h ones = cc
     step-safe t v (Send' trans _ args) sc l s h ones = cc
     step-safe t v (Call' trans _ args u) sc l s h ones =
@@ -226,7 +234,8 @@ module _ (p : Parts) (call : Caller) (ts : List DataType) (kind : Option ℕ) (r
         (args-safe args (parameters_at (slice_get p.transactions trans)) sc l (and-left _ _ s) (and-right (is_called (slice_get p.transactions trans) t u) _ h) ones)
         (λ vs sc1 l1 s1 e. transact-safe trans u v vs sc1 l1 s1 (takes-cells p p.transactions trans (length (flats vs)) t u (and-left _ _ h) e))
 
-    args-safe : {n : _} (row : Row_of-Argument n) (us : List DataType) (sc : Scope) (l : Left) → are_straight_row row ≡ true → are_typed_arguments here row us ≡ true → Ones sc → Safe p (TakesAll us) (arguments p call row sc l)
+    args-safe : {n : _} (row : Row_of-Argument n) (us : List DataType) (sc : Scope) (l : Left) → are_straight_row row ≡ true
+        → are_typed_arguments here row us ≡ true → Ones sc → Safe p (TakesAll us) (arguments p call row sc l)
     args-safe end_of-Argument [] sc l s h ones = (ones, refl)
     args-safe end_of-Argument (u ∷ us) sc l s h ones = cc
     args-safe (more_of-Argument e t rest) [] sc l s h ones = cc
@@ -245,7 +254,8 @@ module _ (p : Parts) (call : Caller) (ts : List DataType) (kind : Option ℕ) (r
       where
         taken : (w : Value) (vs : List Value) (t u : DataType) (us : List DataType) → u ≡ t → IsOf p t w → TakesAll us vs → TakesAll (u ∷ us) (w ∷ vs)
         taken w vs t u us same good all =
-            let first : length (flat w) ≡ cells (layout_of p.structures u) = length-flat (layout_of p.structures t) w good ∙ ap (λ x. cells (layout_of p.structures x)) (sym same) in
+            let first : length (flat w) ≡ cells (layout_of p.structures u) =
+            length-flat (layout_of p.structures t) w good ∙ ap (λ x. cells (layout_of p.structures x)) (sym same) in
             omega (arith, length-append (flat w) (flats vs), first, all)
 
 pub ruleset safety = (eval-safe)

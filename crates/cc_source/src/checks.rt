@@ -243,7 +243,7 @@ fn straight_sites(sites: &[Site]) -> bool
 impl Program {
     /// Whether it has no arithmetic, branches, loops, functions and clauses of an accept.
     pub fn is_straight(&self) -> bool
-        ensures { result ≡ is_straight_program self.now }
+        ensures straight { result ≡ is_straight_program self.now }
     {
         straight_kinds(self.kinds.as_slice())
             && straight_transactions(self.transactions.as_slice())

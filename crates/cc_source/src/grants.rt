@@ -22,15 +22,16 @@ impl Model for Grants {
 impl Grants {
     /// No grant.
     pub fn new(alloc: Global) -> Grants
-        ensures { result ≡ [] }
+        ensures empty { result ≡ [] }
     {
         Grants {
             items: Vec::new(alloc),
         }
     }
 
+    /// How many grants there are.
     pub fn len(&self) -> usize
-        ensures { result ≡ length self.now }
+        ensures length { result ≡ length self.now }
     {
         self.items.len()
     }
@@ -46,7 +47,7 @@ impl Grants {
 
     /// The grant at this index, from 0; none exactly past the end.
     pub fn get(&self, at: usize) -> Option<&Grant>
-        ensures { MatchOption result (slice_get self.now at ≡ None) (λ g. slice_get self.now at ≡ Some g.now) }
+        ensures grant { MatchOption result (slice_get self.now at ≡ None) (λ g. slice_get self.now at ≡ Some g.now) }
     {
         self.items.get(at)
     }

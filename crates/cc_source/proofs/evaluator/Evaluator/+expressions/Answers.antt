@@ -38,8 +38,10 @@ expression-expression-requires-in-Chain t c =
     let steps = c.in-Chain.steps in
     let u = c.in-Chain.data_type in
     let found = c.get-in-Chain.ensures in
-    let straight : (is_straight e && list_all is_straight_step steps && is_straight_value u) ≡ true = sym (straight-Chain e steps u) ∙ ap is_straight (sym c.in-Chain.is) ∙ c.requires.straight in
-    let typed : (not (is_place e && is_part_first steps) && is_typed s e && steps_typed s (type_of e) steps u) ≡ true = sym (typed-Chain s e steps u) ∙ ap (is_typed s) (sym c.in-Chain.is) ∙ c.requires.typed in
+    let straight : (is_straight e && list_all is_straight_step steps && is_straight_value u) ≡ true =
+    sym (straight-Chain e steps u) ∙ ap is_straight (sym c.in-Chain.is) ∙ c.requires.straight in
+    let typed : (not (is_place e && is_part_first steps) && is_typed s e && steps_typed s (type_of e) steps u) ≡ true =
+    sym (typed-Chain s e steps u) ∙ ap (is_typed s) (sym c.in-Chain.is) ∙ c.requires.typed in
     let lighter = ap weight c.in-Chain.is ∙ weight-Chain e steps u in
     let same = ap weight found in (
       omega (arith, lighter, same, c.decreases),
@@ -64,8 +66,10 @@ expression-along-requires t c =
     let u = c.in-Chain.data_type in
     let all = c.as_slice.ensures in
     let first : c.data_type.result ≡ type_of e = c.data_type.ensures.type_of ∙ ap type_of c.get-in-Chain-2.ensures in
-    let straight : (is_straight e && list_all is_straight_step steps && is_straight_value u) ≡ true = sym (straight-Chain e steps u) ∙ ap is_straight (sym c.in-Chain.is) ∙ c.requires.straight in
-    let typed : (not (is_place e && is_part_first steps) && is_typed s e && steps_typed s (type_of e) steps u) ≡ true = sym (typed-Chain s e steps u) ∙ ap (is_typed s) (sym c.in-Chain.is) ∙ c.requires.typed in
+    let straight : (is_straight e && list_all is_straight_step steps && is_straight_value u) ≡ true =
+    sym (straight-Chain e steps u) ∙ ap is_straight (sym c.in-Chain.is) ∙ c.requires.straight in
+    let typed : (not (is_place e && is_part_first steps) && is_typed s e && steps_typed s (type_of e) steps u) ≡ true =
+    sym (typed-Chain s e steps u) ∙ ap (is_typed s) (sym c.in-Chain.is) ∙ c.requires.typed in
     let lighter = ap weight c.in-Chain.is ∙ weight-Chain e steps u in
     let same = ap step_weights all in (
       omega (arith, lighter, same, c.decreases),
@@ -76,7 +80,8 @@ expression-along-requires t c =
           (
             ap (list_all is_straight_step) all ∙ and-right (is_straight e) _ (and-left _ _ straight),
             (
-              ap (λ x. steps_typed s x c.as_slice.result.now u) first ∙ ap (λ xs. steps_typed s (type_of e) xs u) all ∙ and-right (not (is_place e && is_part_first steps) && is_typed s e) _ typed,
+              ap (λ x. steps_typed s x c.as_slice.result.now u) first ∙ ap (λ xs. steps_typed s (type_of e) xs u) all
+                  ∙ and-right (not (is_place e && is_part_first steps) && is_typed s e) _ typed,
               c.in_ok-cells-in-Chain.ensures.size ∙ ap (size self) (ap type_of c.get-in-Chain.ensures ∙ sym first),
             ),
           ),
@@ -90,8 +95,10 @@ expression-expression-requires-in-Assign t c =
     let to = c.in-Assign.to in
     let e = c.in-Assign.value in
     let found = c.get-in-Assign.ensures in
-    let straight : (is_straight_location to && is_straight e) ≡ true = sym (straight-Assign to e) ∙ ap is_straight (sym c.in-Assign.is) ∙ c.requires.straight in
-    let typed : (is_typed_location s to && is_typed s e && is_assignable (type_of e) to.data_type) ≡ true = sym (typed-Assign s to e) ∙ ap (is_typed s) (sym c.in-Assign.is) ∙ c.requires.typed in
+    let straight : (is_straight_location to && is_straight e) ≡ true =
+    sym (straight-Assign to e) ∙ ap is_straight (sym c.in-Assign.is) ∙ c.requires.straight in
+    let typed : (is_typed_location s to && is_typed s e && is_assignable (type_of e) to.data_type) ≡ true =
+    sym (typed-Assign s to e) ∙ ap (is_typed s) (sym c.in-Assign.is) ∙ c.requires.typed in
     let lighter = ap weight c.in-Assign.is ∙ weight-Assign to e in
     let same = ap weight found in (
       omega (arith, lighter, same, c.decreases),
@@ -121,7 +128,8 @@ expression-assign-requires-clause-assignable t c =
     let s = around c.args.self.now in
     let to = c.in-Assign.to in
     let e = c.in-Assign.value in
-    let typed : (is_typed_location s to && is_typed s e && is_assignable (type_of e) to.data_type) ≡ true = sym (typed-Assign s to e) ∙ ap (is_typed s) (sym c.in-Assign.is) ∙ c.requires.typed in
+    let typed : (is_typed_location s to && is_typed s e && is_assignable (type_of e) to.data_type) ≡ true =
+    sym (typed-Assign s to e) ∙ ap (is_typed s) (sym c.in-Assign.is) ∙ c.requires.typed in
     ap (λ u. is_assignable u to.data_type) (c.data_type-in-Assign.ensures.type_of ∙ ap type_of c.get-in-Assign-2.ensures)
     ∙ and-right (is_typed_location s to && is_typed s e) _ typed
 
@@ -134,11 +142,13 @@ expression-returns-in-Parenthesized-clause-value t c =
     let p = self.program.now in
     let sc = scope self c.args.run.now in
     let l = left c.args.run.now in
-    let typed : (is_typed s e && is_same (type_of e) u) ≡ true = sym (typed-Parenthesized s e u) ∙ ap (is_typed s) (sym c.in-Parenthesized.is) ∙ c.requires.typed in
+    let typed : (is_typed s e && is_same (type_of e) u) ≡ true =
+    sym (typed-Parenthesized s e u) ∙ ap (is_typed s) (sym c.in-Parenthesized.is) ∙ c.requires.typed in
     let same : type_of c.get.result.now ≡ type_of c.args.e.now =
     ap type_of c.get.ensures ∙ same-type (type_of e) u (and-right (is_typed s e) _ typed) ∙ sym (ap type_of c.in-Parenthesized.is ∙ type-Parenthesized e u) in
     let means : eval p (caller self) c.get.result.now sc l ≡ eval p (caller self) c.args.e.now sc l =
-    ap (λ x. eval p (caller self) x sc l) c.get.ensures ∙ sym (eval-Parenthesized p (caller self) e u sc l) ∙ ap (λ x. eval p (caller self) x sc l) (sym c.in-Parenthesized.is) in
+    ap (λ x. eval p (caller self) x sc l) c.get.ensures ∙ sym (eval-Parenthesized p (caller self) e u sc l)
+    ∙ ap (λ x. eval p (caller self) x sc l) (sym c.in-Parenthesized.is) in
     regive self (type_of c.get.result.now) (type_of c.args.e.now) c.expression.result c.expression.new.run _ _ same means c.expression.ensures.value
 
 pub expression-returns-in-Parenthesized-clause-size : goal.expression-returns-in-Parenthesized-clause-size
@@ -147,7 +157,8 @@ expression-returns-in-Parenthesized-clause-size t c =
     let s = around self in
     let e = c.in-Parenthesized.operand in
     let u = c.in-Parenthesized.data_type in
-    let typed : (is_typed s e && is_same (type_of e) u) ≡ true = sym (typed-Parenthesized s e u) ∙ ap (is_typed s) (sym c.in-Parenthesized.is) ∙ c.requires.typed in
+    let typed : (is_typed s e && is_same (type_of e) u) ≡ true =
+    sym (typed-Parenthesized s e u) ∙ ap (is_typed s) (sym c.in-Parenthesized.is) ∙ c.requires.typed in
     let same : type_of c.get.result.now ≡ type_of c.args.e.now =
     ap type_of c.get.ensures ∙ same-type (type_of e) u (and-right (is_typed s e) _ typed) ∙ sym (ap type_of c.in-Parenthesized.is ∙ type-Parenthesized e u) in
     subst (λ w. IfOk c.expression.result (λ cs. length cs ≡ size self w)) same c.expression.ensures.size
@@ -164,7 +175,8 @@ expression-returns-in_err-cells-in-Assign-clause-value t c =
     let found = c.get-in-Assign.ensures in
     let straight : is_straight_location to ≡ true = and-left _ _ (sym (straight-Assign to e) ∙ ap is_straight (sym c.in-Assign.is) ∙ c.requires.straight) in
     let means : eval p k c.args.e.now sc l ≡ and_then (eval p k c.get-in-Assign.result.now sc l) (assigned (type_of c.get-in-Assign.result.now) to.data_type to.variable) =
-    ap (λ x. eval p k x sc l) c.in-Assign.is ∙ eval-Assign p k to e sc l straight ∙ ap (λ x. and_then (eval p k x sc l) (assigned (type_of x) to.data_type to.variable)) (sym found) in
+    ap (λ x. eval p k x sc l) c.in-Assign.is ∙ eval-Assign p k to e sc l straight
+    ∙ ap (λ x. and_then (eval p k x sc l) (assigned (type_of x) to.data_type to.variable)) (sym found) in
     search rules
 
 pub expression-returns-in_ok-cells-in-Assign-clause-value : goal.expression-returns-in_ok-cells-in-Assign-clause-value
@@ -180,7 +192,8 @@ expression-returns-in_ok-cells-in-Assign-clause-value t c =
     let found = c.get-in-Assign.ensures in
     let cells = c.in_ok-cells-in-Assign.cells in
     let straight : is_straight_location to ≡ true = and-left _ _ (sym (straight-Assign to e) ∙ ap is_straight (sym c.in-Assign.is) ∙ c.requires.straight) in
-    let from : type_of c.get-in-Assign.result.now ≡ c.data_type-in-Assign.result = sym (c.data_type-in-Assign.ensures.type_of ∙ ap type_of (c.get-in-Assign-2.ensures ∙ sym found)) in
+    let from : type_of c.get-in-Assign.result.now ≡ c.data_type-in-Assign.result =
+    sym (c.data_type-in-Assign.ensures.type_of ∙ ap type_of (c.get-in-Assign-2.ensures ∙ sym found)) in
     let means : eval p k c.args.e.now sc l ≡ assigned c.data_type-in-Assign.result to.data_type to.variable (value self c.data_type-in-Assign.result cells) (scope self run) (left run) =
     ap (λ x. eval p k x sc l) c.in-Assign.is
     ∙ eval-Assign p k to e sc l straight
@@ -197,7 +210,8 @@ step-arguments-requires t c =
     let args = c.in-Call.args in
     let u = c.in-Call.data_type in
     let all = c.as_slice.ensures in
-    let straight : (list_all is_straight_argument args && is_straight_value u) ≡ true = sym (straight-Call trans args u) ∙ ap is_straight_step (sym c.in-Call.is) ∙ c.requires.straight in
+    let straight : (list_all is_straight_argument args && is_straight_value u) ≡ true =
+    sym (straight-Call trans args u) ∙ ap is_straight_step (sym c.in-Call.is) ∙ c.requires.straight in
     let typed : (is_called (slice_get s.parts.transactions trans) c.args.from u && arguments_typed s args (parameters_at (slice_get s.parts.transactions trans))) ≡ true =
     sym (typed-Call s c.args.from trans args u) ∙ ap (is_typed_step s c.args.from) (sym c.in-Call.is) ∙ c.requires.typed in
     let lighter = ap step_weight c.in-Call.is ∙ step_weight-Call trans args u in
@@ -209,7 +223,8 @@ step-arguments-requires t c =
           c.requires.stands,
           (
             ap (list_all is_straight_argument) all ∙ and-left _ _ straight,
-            ap (list_all (is_typed_argument s)) all ∙ arguments-fine s args (parameters_at (slice_get s.parts.transactions trans)) (and-right (is_called (slice_get s.parts.transactions trans) c.args.from u) _ typed),
+            ap (list_all (is_typed_argument s)) all
+                ∙ arguments-fine s args (parameters_at (slice_get s.parts.transactions trans)) (and-right (is_called (slice_get s.parts.transactions trans) c.args.from u) _ typed),
           ),
         ),
       ),
