@@ -1,13 +1,12 @@
 -- Programs whose requests were taken by hand from the rules of the language, and that the meaning gives them. Each shows one rule
 -- in which a slip would be easy.
-use Rattle.std.specs.Prelude.{◌≡◌, ℕ, ℤ, false, pos, negsuc, List, [], ◌∷◌, Option, None, Some}
+use Rattle.std.specs.Prelude.{◌≡◌, ℕ, ℤ, false, pos, negsuc, List, [], ◌∷◌, None, Some}
 use Rattle.std.proofs.Common.{refl}
 use Rattle.cc_base.specs.Formats.{formatted}
 use Rattle.cc_base.specs.Loops.{turns as loop_turns}
 use Rattle.cc_base.specs.Numbers.{compared, converted, in_range, indexed, is_char, is_int, is_long, operated}
 use Rattle.cc_base.specs.declared.alternatives.Alt.TheVariants as alt
 use Rattle.cc_base.specs.declared.numbers.Comparison.TheVariants.{Equal, Less}
-use Rattle.cc_base.specs.declared.numbers.NumberType.{NumberType}
 use Rattle.cc_base.specs.declared.numbers.NumberType.TheVariants as numeric
 use Rattle.cc_base.specs.declared.numbers.Operator.TheVariants.{Add, Divide, Remainder, Subtract}
 use Rattle.cc_base.specs.declared.names.FaultKind.TheVariants.{CalleeGone, Index, NullProcess, Overflow}
@@ -31,8 +30,7 @@ use Rattle.cc_typed.specs.declared.tree.Choice.TheBlock as S
 use Rattle.cc_typed.specs.declared.tree.Expression.{Expression, Arithmetic, Assign, Both, CallFunction, Chain, ChangeAfter, Compare, Constant, CreateProcess, PrintFormat, PutChar, Read, Update, Within}
 use Rattle.cc_typed.specs.declared.tree.Function.{Function}
 use Rattle.cc_typed.specs.declared.tree.Location.{Location}
-use Rattle.cc_typed.specs.declared.tree.PartStep.{PartStep, Element, Field}
-use Rattle.cc_typed.specs.declared.tree.Site.{Site}
+use Rattle.cc_typed.specs.declared.tree.PartStep.{Element, Field}
 use Rattle.cc_typed.specs.declared.tree.Statement.{Statement, Block, Continue, DoWhile, Evaluate, Finish, For, If, Return, Select as SelectStatement}
 use Rattle.cc_typed.specs.declared.types.DataType.{DataType}
 use Rattle.cc_typed.specs.declared.types.DataType.TheVariants.{Void, Array}
