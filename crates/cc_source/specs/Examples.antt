@@ -91,11 +91,6 @@ updates =
     ∷ Evaluate (PrintFormat 0 (value 0 ∷ []))
     ∷ []
 
--- an update reads its place before its right operand
-pub an-update-reads-first : asks (Int ∷ []) updates (Go ∷ []) ≡ Print (formatted one_number (pos 6 ∷ []))
-unfolding act call exec eval operated in_range converted compared indexed is_char is_int is_long element_within cells zero_of unflat flat type_of type_after type_after_step E.shape-the_row-Expression-2 E.hidden-the_row-Expression-2 E.hidden-the_row-PartStep-1 E.hidden-the_row-ChainStep-3 E.hidden-the_row-Operation-4 E.hidden-the_row-Compared-5 E.hidden-the_row-Expression-6 E.hidden-the_row-Argument-0 S.shape-the_row-Statement-1 S.hidden-the_row-Statement-1 S.hidden-the_row-Statement-0 hidden
-an-update-reads-first = refl
-
 abbrev character : Location
 character = variable 0 (of_number numeric.Char)
 
@@ -106,22 +101,12 @@ changes =
     ∷ Evaluate (PrintFormat 1 (ChangeAfter character Up ∷ Read character ∷ []))
     ∷ []
 
--- the old value, and then 256 modulo 256
-pub a-character-wraps : asks (of_number numeric.Char ∷ []) changes (Go ∷ []) ≡ Print (formatted two_numbers (pos 255 ∷ pos 0 ∷ []))
-unfolding act call exec eval operated in_range converted compared indexed is_char is_int is_long element_within cells zero_of unflat flat type_of type_after type_after_step E.shape-the_row-Expression-2 E.hidden-the_row-Expression-2 E.hidden-the_row-PartStep-1 E.hidden-the_row-ChainStep-3 E.hidden-the_row-Operation-4 E.hidden-the_row-Compared-5 E.hidden-the_row-Expression-6 E.hidden-the_row-Argument-0 S.shape-the_row-Statement-1 S.hidden-the_row-Statement-1 S.hidden-the_row-Statement-0 hidden
-a-character-wraps = refl
-
 -- `c -= 1000L; printf("%d", c);`, of a `char`
 abbrev shrinks : List Statement
 shrinks =
     Evaluate (Update character Subtract (Constant (pos 1000) numeric.Long))
     ∷ Evaluate (PrintFormat 0 (Read character ∷ []))
     ∷ []
-
--- computed as `long`, and then modulo 256
-pub a-wider-update : asks (of_number numeric.Char ∷ []) shrinks (Go ∷ []) ≡ Print (formatted one_number (pos 24 ∷ []))
-unfolding act call exec eval operated in_range converted compared indexed is_char is_int is_long element_within cells zero_of unflat flat type_of type_after type_after_step E.shape-the_row-Expression-2 E.hidden-the_row-Expression-2 E.hidden-the_row-PartStep-1 E.hidden-the_row-ChainStep-3 E.hidden-the_row-Operation-4 E.hidden-the_row-Compared-5 E.hidden-the_row-Expression-6 E.hidden-the_row-Argument-0 S.shape-the_row-Statement-1 S.hidden-the_row-Statement-1 S.hidden-the_row-Statement-0 hidden
-a-wider-update = refl
 
 -- the least `int`
 abbrev least : Expression
@@ -134,20 +119,10 @@ quotients =
     ∷ Evaluate (Arithmetic least (record { operator = Divide; operand = number (negsuc 0); number_type = numeric.Int } ∷ []) numeric.Int)
     ∷ []
 
--- its remainder is 0
-pub a-remainder-fits : asks [] quotients (Go ∷ []) ≡ Print (formatted one_number (pos 0 ∷ []))
-unfolding act call exec eval operated in_range converted compared indexed is_char is_int is_long element_within cells zero_of unflat flat type_of type_after type_after_step E.shape-the_row-Expression-2 E.hidden-the_row-Expression-2 E.hidden-the_row-PartStep-1 E.hidden-the_row-ChainStep-3 E.hidden-the_row-Operation-4 E.hidden-the_row-Compared-5 E.hidden-the_row-Expression-6 E.hidden-the_row-Argument-0 S.shape-the_row-Statement-1 S.hidden-the_row-Statement-1 S.hidden-the_row-Statement-0 hidden
-a-remainder-fits = refl
-
--- its quotient is no `int`
-pub a-quotient-overflows : asks [] quotients (Go ∷ Go ∷ []) ≡ Fault Overflow
-unfolding act call exec eval operated in_range converted compared indexed is_char is_int is_long element_within cells zero_of unflat flat type_of type_after type_after_step E.shape-the_row-Expression-2 E.hidden-the_row-Expression-2 E.hidden-the_row-PartStep-1 E.hidden-the_row-ChainStep-3 E.hidden-the_row-Operation-4 E.hidden-the_row-Compared-5 E.hidden-the_row-Expression-6 E.hidden-the_row-Argument-0 S.shape-the_row-Statement-1 S.hidden-the_row-Statement-1 S.hidden-the_row-Statement-0 hidden
-a-quotient-overflows = refl
-
--- `int a[2]; a[2] = putchar('x');`
-pub an-index-comes-first : asks (Array (item.Number numeric.Int) 2 ∷ []) (Evaluate (Assign (record { variable = 0; of = Array (item.Number numeric.Int) 2; steps = Element (number (pos 2)) Int ∷ []; data_type = Int }) (put 120)) ∷ []) (Go ∷ []) ≡ Fault Index
-unfolding act call exec eval operated in_range converted compared indexed is_char is_int is_long element_within cells zero_of unflat flat type_of type_after type_after_step E.shape-the_row-Expression-2 E.hidden-the_row-Expression-2 E.hidden-the_row-PartStep-1 E.hidden-the_row-ChainStep-3 E.hidden-the_row-Operation-4 E.hidden-the_row-Compared-5 E.hidden-the_row-Expression-6 E.hidden-the_row-Argument-0 S.shape-the_row-Statement-1 S.hidden-the_row-Statement-1 S.hidden-the_row-Statement-0 hidden
-an-index-comes-first = refl
+-- `a[2]` of `int a[2];`
+abbrev past_the_end : Location
+past_the_end =
+    record { variable = 0; of = Array (item.Number numeric.Int) 2; steps = Element (number (pos 2)) Int ∷ []; data_type = Int }
 
 -- `struct s { int a; int b; };`
 abbrev pair : Structure
@@ -165,44 +140,14 @@ copies =
     ∷ Evaluate (PrintFormat 1 (Read (field 0 0) ∷ Read (field 0 1) ∷ []))
     ∷ []
 
--- the place stays though the right operand overwrites the structure
-pub a-place-stays : act (program (pair ∷ []) [] (of_struct 0 ∷ of_struct 0 ∷ []) copies) 0 [] (Go ∷ []) ≡ Print (formatted two_numbers (pos 3 ∷ pos 7 ∷ []))
-unfolding act call exec eval operated in_range converted compared indexed is_char is_int is_long element_within cells zero_of unflat flat type_of type_after type_after_step E.shape-the_row-Expression-2 E.hidden-the_row-Expression-2 E.hidden-the_row-PartStep-1 E.hidden-the_row-ChainStep-3 E.hidden-the_row-Operation-4 E.hidden-the_row-Compared-5 E.hidden-the_row-Expression-6 E.hidden-the_row-Argument-0 S.shape-the_row-Statement-1 S.hidden-the_row-Statement-1 S.hidden-the_row-Statement-0 hidden
-a-place-stays = refl
-
 abbrev large : Expression
 large = Constant (pos 5000000000) numeric.Long
-
--- `f(int a, int b) { } main() { f(5000000000, putchar('x')); }`
-pub an-argument-is-converted-before-the-next : act (program [] (record { parameters = 2; variables = Int ∷ Int ∷ []; result = Void; body = [] } ∷ []) [] (Evaluate (CallFunction 0 (given large ∷ given (put 120) ∷ []) Void) ∷ [])) 0 [] (Go ∷ []) ≡ Fault Overflow
-unfolding act call exec eval operated in_range converted compared indexed is_char is_int is_long element_within cells zero_of unflat flat type_of type_after type_after_step E.shape-the_row-Expression-2 E.hidden-the_row-Expression-2 E.hidden-the_row-PartStep-1 E.hidden-the_row-ChainStep-3 E.hidden-the_row-Operation-4 E.hidden-the_row-Compared-5 E.hidden-the_row-Expression-6 E.hidden-the_row-Argument-0 S.shape-the_row-Statement-1 S.hidden-the_row-Statement-1 S.hidden-the_row-Statement-0 hidden
-an-argument-is-converted-before-the-next = refl
-
--- `main() { return 5000000000; }`
-pub the-value-of-main-is-dropped : asks [] (Finish (Some large) ∷ []) (Go ∷ []) ≡ Done
-unfolding act call exec eval operated in_range converted compared indexed is_char is_int is_long element_within cells zero_of unflat flat type_of type_after type_after_step E.shape-the_row-Expression-2 E.hidden-the_row-Expression-2 E.hidden-the_row-PartStep-1 E.hidden-the_row-ChainStep-3 E.hidden-the_row-Operation-4 E.hidden-the_row-Compared-5 E.hidden-the_row-Expression-6 E.hidden-the_row-Argument-0 S.shape-the_row-Statement-1 S.hidden-the_row-Statement-1 S.hidden-the_row-Statement-0 hidden
-the-value-of-main-is-dropped = refl
-
--- `f() { return 5000000000; } main() { f(); }`
-pub the-value-of-a-function-is-converted : act (program [] (record { parameters = 0; variables = []; result = Int; body = Return (Some large) Int ∷ [] } ∷ []) [] (Evaluate (CallFunction 0 [] Int) ∷ [])) 0 [] (Go ∷ []) ≡ Fault Overflow
-unfolding act call exec eval operated in_range converted compared indexed is_char is_int is_long element_within cells zero_of unflat flat type_of type_after type_after_step E.shape-the_row-Expression-2 E.hidden-the_row-Expression-2 E.hidden-the_row-PartStep-1 E.hidden-the_row-ChainStep-3 E.hidden-the_row-Operation-4 E.hidden-the_row-Compared-5 E.hidden-the_row-Expression-6 E.hidden-the_row-Argument-0 S.shape-the_row-Statement-1 S.hidden-the_row-Statement-1 S.hidden-the_row-Statement-0 hidden
-the-value-of-a-function-is-converted = refl
 
 -- `process s p; p.t(putchar('x'));`
 abbrev null_call : List Statement
 null_call =
     Evaluate (Chain (Read (variable 0 (of_process 1))) (Call 0 (given (put 120) ∷ []) Int ∷ []) Int)
     ∷ []
-
--- the arguments are evaluated
-pub arguments-come-before-the-process : asks (of_process 1 ∷ []) null_call (Go ∷ []) ≡ Print (120 ∷ [])
-unfolding act call exec eval operated in_range converted compared indexed is_char is_int is_long element_within cells zero_of unflat flat type_of type_after type_after_step E.shape-the_row-Expression-2 E.hidden-the_row-Expression-2 E.hidden-the_row-PartStep-1 E.hidden-the_row-ChainStep-3 E.hidden-the_row-Operation-4 E.hidden-the_row-Compared-5 E.hidden-the_row-Expression-6 E.hidden-the_row-Argument-0 S.shape-the_row-Statement-1 S.hidden-the_row-Statement-1 S.hidden-the_row-Statement-0 hidden
-arguments-come-before-the-process = refl
-
--- and then the process is found to be null
-pub null-is-no-process : asks (of_process 1 ∷ []) null_call (Go ∷ Go ∷ []) ≡ Fault NullProcess
-unfolding act call exec eval operated in_range converted compared indexed is_char is_int is_long element_within cells zero_of unflat flat type_of type_after type_after_step E.shape-the_row-Expression-2 E.hidden-the_row-Expression-2 E.hidden-the_row-PartStep-1 E.hidden-the_row-ChainStep-3 E.hidden-the_row-Operation-4 E.hidden-the_row-Compared-5 E.hidden-the_row-Expression-6 E.hidden-the_row-Argument-0 S.shape-the_row-Statement-1 S.hidden-the_row-Statement-1 S.hidden-the_row-Statement-0 hidden
-null-is-no-process = refl
 
 -- `p = create s(); within putchar('d') ? p.t(putchar('a')) : putchar('e');`
 abbrev timed_call : List Statement
@@ -217,36 +162,6 @@ made = Go ∷ Made (record { 0 = 1 }) ∷ Go ∷ Go ∷ []
 -- after its process was made, and after this answer
 abbrev after : Grant → Request
 after g = asks (of_process 1 ∷ []) timed_call (Go ∷ Made (record { 0 = 1 }) ∷ Go ∷ Go ∷ g ∷ [])
-
--- the wait is evaluated before the arguments
-pub a-wait-comes-first : asks (of_process 1 ∷ []) timed_call (Go ∷ Made (record { 0 = 1 }) ∷ []) ≡ Print (100 ∷ [])
-unfolding act call exec eval operated in_range converted compared indexed is_char is_int is_long element_within cells zero_of unflat flat type_of type_after type_after_step E.shape-the_row-Expression-2 E.hidden-the_row-Expression-2 E.hidden-the_row-PartStep-1 E.hidden-the_row-ChainStep-3 E.hidden-the_row-Operation-4 E.hidden-the_row-Compared-5 E.hidden-the_row-Expression-6 E.hidden-the_row-Argument-0 S.shape-the_row-Statement-1 S.hidden-the_row-Statement-1 S.hidden-the_row-Statement-0 hidden
-a-wait-comes-first = refl
-
--- the call, of process 1, for 100 milliseconds
-pub a-timed-call-is-asked : asks (of_process 1 ∷ []) timed_call made ≡ TimedCall (record { 0 = 1 }) 0 (pos 97 ∷ []) (pos 100)
-unfolding act call exec eval operated in_range converted compared indexed is_char is_int is_long element_within cells zero_of unflat flat type_of type_after type_after_step E.shape-the_row-Expression-2 E.hidden-the_row-Expression-2 E.hidden-the_row-PartStep-1 E.hidden-the_row-ChainStep-3 E.hidden-the_row-Operation-4 E.hidden-the_row-Compared-5 E.hidden-the_row-Expression-6 E.hidden-the_row-Argument-0 S.shape-the_row-Statement-1 S.hidden-the_row-Statement-1 S.hidden-the_row-Statement-0 hidden
-a-timed-call-is-asked = refl
-
--- what stands for the value is evaluated where the call is late
-pub a-late-call-has-its-other-value : after Late ≡ Print (101 ∷ [])
-unfolding act call exec eval operated in_range converted compared indexed is_char is_int is_long element_within cells zero_of unflat flat type_of type_after type_after_step E.shape-the_row-Expression-2 E.hidden-the_row-Expression-2 E.hidden-the_row-PartStep-1 E.hidden-the_row-ChainStep-3 E.hidden-the_row-Operation-4 E.hidden-the_row-Compared-5 E.hidden-the_row-Expression-6 E.hidden-the_row-Argument-0 S.shape-the_row-Statement-1 S.hidden-the_row-Statement-1 S.hidden-the_row-Statement-0 hidden
-a-late-call-has-its-other-value = refl
-
--- and not where it is answered
-pub an-answered-call-has-none : after (Value (pos 7 ∷ [])) ≡ Done
-unfolding act call exec eval operated in_range converted compared indexed is_char is_int is_long element_within cells zero_of unflat flat type_of type_after type_after_step E.shape-the_row-Expression-2 E.hidden-the_row-Expression-2 E.hidden-the_row-PartStep-1 E.hidden-the_row-ChainStep-3 E.hidden-the_row-Operation-4 E.hidden-the_row-Compared-5 E.hidden-the_row-Expression-6 E.hidden-the_row-Argument-0 S.shape-the_row-Statement-1 S.hidden-the_row-Statement-1 S.hidden-the_row-Statement-0 hidden
-an-answered-call-has-none = refl
-
--- a callee that is gone is a fault
-pub a-callee-that-is-gone : after Gone ≡ Fault CalleeGone
-unfolding act call exec eval operated in_range converted compared indexed is_char is_int is_long element_within cells zero_of unflat flat type_of type_after type_after_step E.shape-the_row-Expression-2 E.hidden-the_row-Expression-2 E.hidden-the_row-PartStep-1 E.hidden-the_row-ChainStep-3 E.hidden-the_row-Operation-4 E.hidden-the_row-Compared-5 E.hidden-the_row-Expression-6 E.hidden-the_row-Argument-0 S.shape-the_row-Statement-1 S.hidden-the_row-Statement-1 S.hidden-the_row-Statement-0 hidden
-a-callee-that-is-gone = refl
-
--- `0 && putchar('x');`
-pub a-false-left-operand : asks [] (Evaluate (Both (number (pos 0)) (put 120 ∷ [])) ∷ []) (Go ∷ []) ≡ Done
-unfolding act call exec eval operated in_range converted compared indexed is_char is_int is_long element_within cells zero_of unflat flat type_of type_after type_after_step E.shape-the_row-Expression-2 E.hidden-the_row-Expression-2 E.hidden-the_row-PartStep-1 E.hidden-the_row-ChainStep-3 E.hidden-the_row-Operation-4 E.hidden-the_row-Compared-5 E.hidden-the_row-Expression-6 E.hidden-the_row-Argument-0 S.shape-the_row-Statement-1 S.hidden-the_row-Statement-1 S.hidden-the_row-Statement-0 hidden
-a-false-left-operand = refl
 
 -- `suchthat (10 / x)` at an accept of a transaction with one parameter of type `int`
 abbrev dividing : Parts
@@ -272,57 +187,27 @@ dividing =
       formats = [];
     }
 
--- a clause that faults holds for no call
-pub a-faulting-clause : fit dividing 0 [] (pos 0 ∷ []) ≡ None
-unfolding act call fit exec eval operated in_range converted compared indexed is_char is_int is_long element_within cells zero_of unflat flat type_of type_after type_after_step E.shape-the_row-Expression-2 E.hidden-the_row-Expression-2 E.hidden-the_row-PartStep-1 E.hidden-the_row-ChainStep-3 E.hidden-the_row-Operation-4 E.hidden-the_row-Compared-5 E.hidden-the_row-Expression-6 E.hidden-the_row-Argument-0 S.shape-the_row-Statement-1 S.hidden-the_row-Statement-1 S.hidden-the_row-Statement-0 hidden
-a-faulting-clause = refl
-
--- and without `by` each call that fits has the rank 0
-pub a-clause-that-holds : fit dividing 0 [] (pos 5 ∷ []) ≡ Some (pos 0)
-unfolding act call fit exec eval operated in_range converted compared indexed is_char is_int is_long element_within cells zero_of unflat flat type_of type_after type_after_step E.shape-the_row-Expression-2 E.hidden-the_row-Expression-2 E.hidden-the_row-PartStep-1 E.hidden-the_row-ChainStep-3 E.hidden-the_row-Operation-4 E.hidden-the_row-Compared-5 E.hidden-the_row-Expression-6 E.hidden-the_row-Argument-0 S.shape-the_row-Statement-1 S.hidden-the_row-Statement-1 S.hidden-the_row-Statement-0 hidden
-a-clause-that-holds = refl
-
 -- `for (i = 0; i < 3; i++) { if (i == 1) continue; putchar(i); }`
 abbrev turns : List Statement
 turns =
-    For (Some (Assign (place 0) (number (pos 0)))) (Some (Compare (value 0) (record { comparison = Less; operand = number (pos 3) } ∷ []))) (Some (ChangeAfter (place 0) Up))
+    For (Some (Assign (place 0) (number (pos 0))))
+    (Some (Compare (value 0) (record { comparison = Less; operand = number (pos 3) } ∷ []))) (Some (ChangeAfter (place 0) Up))
     (Block (If (Compare (value 0) (record { comparison = Equal; operand = number (pos 1) } ∷ [])) Continue ∷ Evaluate (PutChar (value 0)) ∷ []))
     ∷ []
-
--- the first turn
-pub a-loop-begins : asks (Int ∷ []) turns (Go ∷ []) ≡ Print (0 ∷ [])
-unfolding act call exec eval loop_turns operated in_range converted compared indexed is_char is_int is_long element_within cells zero_of unflat flat type_of type_after type_after_step E.shape-the_row-Expression-2 E.hidden-the_row-Expression-2 E.hidden-the_row-PartStep-1 E.hidden-the_row-ChainStep-3 E.hidden-the_row-Operation-4 E.hidden-the_row-Compared-5 E.hidden-the_row-Expression-6 E.hidden-the_row-Argument-0 S.shape-the_row-Statement-1 S.hidden-the_row-Statement-1 S.hidden-the_row-Statement-0 hidden
-a-loop-begins = refl
-
--- `continue` goes on with the third part
-pub continue-goes-to-the-third-part : asks (Int ∷ []) turns (Go ∷ Go ∷ []) ≡ Print (2 ∷ [])
-unfolding act call exec eval loop_turns operated in_range converted compared indexed is_char is_int is_long element_within cells zero_of unflat flat type_of type_after type_after_step E.shape-the_row-Expression-2 E.hidden-the_row-Expression-2 E.hidden-the_row-PartStep-1 E.hidden-the_row-ChainStep-3 E.hidden-the_row-Operation-4 E.hidden-the_row-Compared-5 E.hidden-the_row-Expression-6 E.hidden-the_row-Argument-0 S.shape-the_row-Statement-1 S.hidden-the_row-Statement-1 S.hidden-the_row-Statement-0 hidden
-continue-goes-to-the-third-part = refl
-
--- and the loop ends
-pub a-loop-ends : asks (Int ∷ []) turns (Go ∷ Go ∷ Go ∷ []) ≡ Done
-unfolding act call exec eval loop_turns operated in_range converted compared indexed is_char is_int is_long element_within cells zero_of unflat flat type_of type_after type_after_step E.shape-the_row-Expression-2 E.hidden-the_row-Expression-2 E.hidden-the_row-PartStep-1 E.hidden-the_row-ChainStep-3 E.hidden-the_row-Operation-4 E.hidden-the_row-Compared-5 E.hidden-the_row-Expression-6 E.hidden-the_row-Argument-0 S.shape-the_row-Statement-1 S.hidden-the_row-Statement-1 S.hidden-the_row-Statement-0 hidden
-a-loop-ends = refl
 
 -- `do i++; while (i < n);`
 abbrev counts : ℤ → List Statement
 counts n = DoWhile (Evaluate (ChangeAfter (place 0) Up)) (Compare (value 0) (record { comparison = Less; operand = number n } ∷ [])) ∷ []
 
--- a thousand turns spend the ticks of a grant
-pub a-thousand-turns : asks (Int ∷ []) (counts (pos 1000)) (Go ∷ []) ≡ Done
-unfolding act call exec eval loop_turns operated in_range converted compared indexed is_char is_int is_long element_within cells zero_of unflat flat type_of type_after type_after_step E.shape-the_row-Expression-2 E.hidden-the_row-Expression-2 E.hidden-the_row-PartStep-1 E.hidden-the_row-ChainStep-3 E.hidden-the_row-Operation-4 E.hidden-the_row-Compared-5 E.hidden-the_row-Expression-6 E.hidden-the_row-Argument-0 S.shape-the_row-Statement-1 S.hidden-the_row-Statement-1 S.hidden-the_row-Statement-0 hidden
-a-thousand-turns = refl
-
--- and one more asks for others
-pub one-turn-more : asks (Int ∷ []) (counts (pos 1001)) (Go ∷ []) ≡ Pause
-unfolding act call exec eval loop_turns operated in_range converted compared indexed is_char is_int is_long element_within cells zero_of unflat flat type_of type_after type_after_step E.shape-the_row-Expression-2 E.hidden-the_row-Expression-2 E.hidden-the_row-PartStep-1 E.hidden-the_row-ChainStep-3 E.hidden-the_row-Operation-4 E.hidden-the_row-Compared-5 E.hidden-the_row-Expression-6 E.hidden-the_row-Argument-0 S.shape-the_row-Statement-1 S.hidden-the_row-Statement-1 S.hidden-the_row-Statement-0 hidden
-one-turn-more = refl
-
 -- `select { (putchar('a') == 0): accept t(); or (putchar('b')): delay putchar('c'); or immediate; }`
 abbrev choices : List Statement
 choices =
     SelectStatement
-    (record { guard = Some (Compare (put 97) (record { comparison = Equal; operand = number (pos 0) } ∷ [])); choice = AcceptChoice (record { site = 0; block = [] }); entries = [] }
+    (record {
+      guard = Some (Compare (put 97) (record { comparison = Equal; operand = number (pos 0) } ∷ []));
+      choice = AcceptChoice (record { site = 0; block = [] });
+      entries = [];
+    }
     ∷ record { guard = Some (put 98); choice = DelayChoice (put 99); entries = [] }
     ∷ record { guard = None; choice = Immediate; entries = [] }
     ∷ [])
@@ -331,52 +216,102 @@ choices =
 abbrev selects : List Grant → Request
 selects grants = asks [] choices grants
 
--- guards and durations are evaluated in the order of the text
-pub guards-come-in-order : selects (Go ∷ []) ≡ Print (97 ∷ [])
-unfolding act call exec eval operated in_range converted compared indexed is_char is_int is_long element_within cells zero_of unflat flat type_of type_after type_after_step E.shape-the_row-Expression-2 E.hidden-the_row-Expression-2 E.hidden-the_row-PartStep-1 E.hidden-the_row-ChainStep-3 E.hidden-the_row-Operation-4 E.hidden-the_row-Compared-5 E.hidden-the_row-Expression-6 E.hidden-the_row-Argument-0 S.shape-the_row-Statement-1 S.hidden-the_row-Statement-1 S.hidden-the_row-Statement-0 S.hidden-the_row-Alternative-2 hidden
-guards-come-in-order = refl
-
--- the duration after its guard
-pub a-duration-comes-with-its-guard : selects (Go ∷ Go ∷ Go ∷ []) ≡ Print (99 ∷ [])
-unfolding act call exec eval operated in_range converted compared indexed is_char is_int is_long element_within cells zero_of unflat flat type_of type_after type_after_step E.shape-the_row-Expression-2 E.hidden-the_row-Expression-2 E.hidden-the_row-PartStep-1 E.hidden-the_row-ChainStep-3 E.hidden-the_row-Operation-4 E.hidden-the_row-Compared-5 E.hidden-the_row-Expression-6 E.hidden-the_row-Argument-0 S.shape-the_row-Statement-1 S.hidden-the_row-Statement-1 S.hidden-the_row-Statement-0 S.hidden-the_row-Alternative-2 hidden
-a-duration-comes-with-its-guard = refl
-
--- and those that are open keep their numbers
-pub open-alternatives : selects (Go ∷ Go ∷ Go ∷ Go ∷ []) ≡ Select ((1, alt.After (pos 99)) ∷ (2, alt.Now) ∷ [])
-unfolding act call exec eval operated in_range converted compared indexed is_char is_int is_long element_within cells zero_of unflat flat type_of type_after type_after_step E.shape-the_row-Expression-2 E.hidden-the_row-Expression-2 E.hidden-the_row-PartStep-1 E.hidden-the_row-ChainStep-3 E.hidden-the_row-Operation-4 E.hidden-the_row-Compared-5 E.hidden-the_row-Expression-6 E.hidden-the_row-Argument-0 S.shape-the_row-Statement-1 S.hidden-the_row-Statement-1 S.hidden-the_row-Statement-0 S.hidden-the_row-Alternative-2 hidden
-open-alternatives = refl
-
--- all of these
+-- what they ask
 abbrev pub WorkedPrograms : Type 0
 WorkedPrograms =
+    -- an update reads its place before its right operand
     (asks (Int ∷ []) updates (Go ∷ []) ≡ Print (formatted one_number (pos 6 ∷ [])))
+    -- the old value, and then 256 modulo 256
     × (asks (of_number numeric.Char ∷ []) changes (Go ∷ []) ≡ Print (formatted two_numbers (pos 255 ∷ pos 0 ∷ [])))
+    -- computed as `long`, and then modulo 256
     × (asks (of_number numeric.Char ∷ []) shrinks (Go ∷ []) ≡ Print (formatted one_number (pos 24 ∷ [])))
+    -- its remainder is 0
     × (asks [] quotients (Go ∷ []) ≡ Print (formatted one_number (pos 0 ∷ [])))
+    -- its quotient is no `int`
     × (asks [] quotients (Go ∷ Go ∷ []) ≡ Fault Overflow)
-    × (asks (Array (item.Number numeric.Int) 2 ∷ []) (Evaluate (Assign (record { variable = 0; of = Array (item.Number numeric.Int) 2; steps = Element (number (pos 2)) Int ∷ []; data_type = Int }) (put 120)) ∷ []) (Go ∷ []) ≡ Fault Index)
+    -- `int a[2]; a[2] = putchar('x');`
+    × (asks (Array (item.Number numeric.Int) 2 ∷ [])
+    (Evaluate (Assign past_the_end (put 120)) ∷ []) (Go ∷ []) ≡ Fault Index)
+    -- the place stays though the right operand overwrites the structure
     × (act (program (pair ∷ []) [] (of_struct 0 ∷ of_struct 0 ∷ []) copies) 0 [] (Go ∷ []) ≡ Print (formatted two_numbers (pos 3 ∷ pos 7 ∷ [])))
-    × (act (program [] (record { parameters = 2; variables = Int ∷ Int ∷ []; result = Void; body = [] } ∷ []) [] (Evaluate (CallFunction 0 (given large ∷ given (put 120) ∷ []) Void) ∷ [])) 0 [] (Go ∷ []) ≡ Fault Overflow)
+    -- `f(int a, int b) { } main() { f(5000000000, putchar('x')); }`
+    × (act (program [] (record { parameters = 2; variables = Int ∷ Int ∷ []; result = Void; body = [] } ∷ []) []
+    (Evaluate (CallFunction 0 (given large ∷ given (put 120) ∷ []) Void) ∷ [])) 0 [] (Go ∷ []) ≡ Fault Overflow)
+    -- `main() { return 5000000000; }`
     × (asks [] (Finish (Some large) ∷ []) (Go ∷ []) ≡ Done)
-    × (act (program [] (record { parameters = 0; variables = []; result = Int; body = Return (Some large) Int ∷ [] } ∷ []) [] (Evaluate (CallFunction 0 [] Int) ∷ [])) 0 [] (Go ∷ []) ≡ Fault Overflow)
+    -- `f() { return 5000000000; } main() { f(); }`
+    × (act (program [] (record { parameters = 0; variables = []; result = Int; body = Return (Some large) Int ∷ [] } ∷ []) []
+    (Evaluate (CallFunction 0 [] Int) ∷ [])) 0 [] (Go ∷ []) ≡ Fault Overflow)
+    -- the arguments are evaluated
     × (asks (of_process 1 ∷ []) null_call (Go ∷ []) ≡ Print (120 ∷ []))
+    -- and then the process is found to be null
     × (asks (of_process 1 ∷ []) null_call (Go ∷ Go ∷ []) ≡ Fault NullProcess)
+    -- the wait is evaluated before the arguments
     × (asks (of_process 1 ∷ []) timed_call (Go ∷ Made (record { 0 = 1 }) ∷ []) ≡ Print (100 ∷ []))
+    -- the call, of process 1, for 100 milliseconds
     × (asks (of_process 1 ∷ []) timed_call made ≡ TimedCall (record { 0 = 1 }) 0 (pos 97 ∷ []) (pos 100))
+    -- what stands for the value is evaluated where the call is late
     × (after Late ≡ Print (101 ∷ []))
+    -- and not where it is answered
     × (after (Value (pos 7 ∷ [])) ≡ Done)
+    -- a callee that is gone is a fault
     × (after Gone ≡ Fault CalleeGone)
+    -- `0 && putchar('x');`
     × (asks [] (Evaluate (Both (number (pos 0)) (put 120 ∷ [])) ∷ []) (Go ∷ []) ≡ Done)
+    -- a clause that faults holds for no call
     × (fit dividing 0 [] (pos 0 ∷ []) ≡ None)
+    -- and without `by` each call that fits has the rank 0
     × (fit dividing 0 [] (pos 5 ∷ []) ≡ Some (pos 0))
+    -- the first turn
     × (asks (Int ∷ []) turns (Go ∷ []) ≡ Print (0 ∷ []))
+    -- `continue` goes on with the third part
     × (asks (Int ∷ []) turns (Go ∷ Go ∷ []) ≡ Print (2 ∷ []))
+    -- and the loop ends
     × (asks (Int ∷ []) turns (Go ∷ Go ∷ Go ∷ []) ≡ Done)
+    -- a thousand turns spend the ticks of a grant
     × (asks (Int ∷ []) (counts (pos 1000)) (Go ∷ []) ≡ Done)
+    -- and one more asks for others
     × (asks (Int ∷ []) (counts (pos 1001)) (Go ∷ []) ≡ Pause)
+    -- guards and durations are evaluated in the order of the text
     × (selects (Go ∷ []) ≡ Print (97 ∷ []))
+    -- the duration after its guard
     × (selects (Go ∷ Go ∷ Go ∷ []) ≡ Print (99 ∷ []))
+    -- and those that are open keep their numbers
     × (selects (Go ∷ Go ∷ Go ∷ Go ∷ []) ≡ Select ((1, alt.After (pos 99)) ∷ (2, alt.Now) ∷ []))
 
 pub worked-programs : WorkedPrograms
-worked-programs = (an-update-reads-first, a-character-wraps, a-wider-update, a-remainder-fits, a-quotient-overflows, an-index-comes-first, a-place-stays, an-argument-is-converted-before-the-next, the-value-of-main-is-dropped, the-value-of-a-function-is-converted, arguments-come-before-the-process, null-is-no-process, a-wait-comes-first, a-timed-call-is-asked, a-late-call-has-its-other-value, an-answered-call-has-none, a-callee-that-is-gone, a-false-left-operand, a-faulting-clause, a-clause-that-holds, a-loop-begins, continue-goes-to-the-third-part, a-loop-ends, a-thousand-turns, one-turn-more, guards-come-in-order, a-duration-comes-with-its-guard, open-alternatives)
+unfolding act call fit exec eval loop_turns operated in_range converted compared indexed is_char is_int is_long element_within cells zero_of unflat flat
+    type_of type_after type_after_step E.shape-the_row-Expression-2 E.hidden-the_row-Expression-2 E.hidden-the_row-PartStep-1
+    E.hidden-the_row-ChainStep-3 E.hidden-the_row-Operation-4 E.hidden-the_row-Compared-5 E.hidden-the_row-Expression-6
+    E.hidden-the_row-Argument-0 S.shape-the_row-Statement-1 S.hidden-the_row-Statement-1 S.hidden-the_row-Statement-0
+    S.hidden-the_row-Alternative-2 hidden
+worked-programs = (
+  refl,
+  refl,
+  refl,
+  refl,
+  refl,
+  refl,
+  refl,
+  refl,
+  refl,
+  refl,
+  refl,
+  refl,
+  refl,
+  refl,
+  refl,
+  refl,
+  refl,
+  refl,
+  refl,
+  refl,
+  refl,
+  refl,
+  refl,
+  refl,
+  refl,
+  refl,
+  refl,
+  refl,
+)
