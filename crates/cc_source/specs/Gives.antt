@@ -62,8 +62,8 @@ size v t = cells (layout_of (structures_of v) t)
 abbrev pub caller : Evaluator → Caller
 caller v = call v.program.now v.calls v.cells
 
--- the value, of which f is what counts, with the variables and what is left, or the request; nothing is said where it is out
--- of memory
+-- the value, which f turns into that of the definition, with the variables and what is left, or the request; nothing is said where
+-- it is out of memory
 abbrev pub GivesBy : {A B : Type 0} → (A → B) → Evaluator → Result A Unfinished → Run → Outcome Scope B → Type 0
 GivesBy f v (Ok a) run o = o ≡ Through (f a) (scope v run) (left run)
 GivesBy f v (Err (unfinished.Asked request)) run o = o ≡ Asked request

@@ -9,6 +9,8 @@ pub mod Straight
 pub mod Early
 -- what evaluating a phrase on cells gives
 pub mod Gives
+-- programs whose requests were taken by hand
+pub mod Examples
 -- straight phrases give values of their types, and ask what can be performed
 pub mod Known
 pub mod Safe

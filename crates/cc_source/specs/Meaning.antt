@@ -71,7 +71,7 @@ abbrev pub converted_value : DataType → DataType → Value → Eval Scope Valu
 converted_value (of_number t) (of_number u) v = number_or_fault (converted t u (number v))
 converted_value _ _ v = pure v
 
--- a place of type t is updated by an operation with a number of type u; the first value is what stood there
+-- a place of type t is updated by an operation with a number of type u; the last value is what stood there
 abbrev pub changed : ℕ → List ℕ → DataType → Operator → NumberType → ℤ → Value → Eval Scope Value
 changed x path t o u amount old = do
   v ← number_or_fault (updated o (number_in t) u (number old) amount)
@@ -81,12 +81,12 @@ abbrev pub amount_of : Change → ℤ
 amount_of Up = pos 1
 amount_of Down = negsuc 0
 
--- variables are set one after the other
+-- variables from number x on are set, one after the other
 abbrev pub set_from : ℕ → List Value → Scope → Scope
 set_from x [] scope = scope
 set_from x (v ∷ vs) scope = set_from (suc x) vs (set scope x v)
 
--- call function args: what the call of a function does
+-- `call function args` is what the call of a function does
 abbrev pub Caller : Type 0
 Caller = ℕ → List Value → Eval Scope Value
 

@@ -48,7 +48,7 @@ ticked p call f = do
   tick
   pure (returned p f.result flow)
 
--- a call of a function where variables of this many cells are active
+-- a call of a function where variables of this many cells are active; a typed program calls none that is not there
 abbrev pub entered : Parts → (ℕ → Caller) → ℕ → Option Function → List Value → Eval Scope Value
 entered p call active None args = stop (Fault Depth)
 entered p call active (Some f) args =
@@ -69,7 +69,7 @@ variables_at_start p k args = values_all p (take k.parameters k.variables) args 
 abbrev pub left_at_start : List Grant → Left
 left_at_start grants = record { grants = drop 1 grants; ticks = ticks_granted }
 
--- what comes of the body of a process
+-- what comes of the body of a process; one of a kind that is not there does nothing
 abbrev pub body : Parts → Option Kind → List ℤ → List Grant → Outcome Scope Flow
 body p None args grants = Asked Done
 body p (Some k) args grants =
@@ -87,7 +87,7 @@ shape_of p t = record { is_async = t.is_async; args = cells_all p t.parameters; 
 abbrev pub parameter_cells : Parts → Kind → ℕ
 parameter_cells p k = cells_all p (take k.parameters k.variables)
 
--- no call of a function, no tick and no grant: what a pure expression has
+-- a pure expression calls nothing, spends no tick and needs no grant, so these will do
 abbrev pub no_call : Caller
 no_call f args = stop (Fault Depth)
 
@@ -114,7 +114,8 @@ variables_seen p s env args =
     set_from s.first (values_all p (parameters_at (slice_get p.transactions s.transaction)) args)
     (set_each s.environment (values_all p (types_at types s.environment) env) (zero_all p types))
 
--- the rank by the clauses of an accept: none where `suchthat` is 0 or one of them faults, and 0 without `by`
+-- the rank by the clauses of an accept: none where `suchthat` is 0 or one of them faults, and 0 without `by`. Clauses that ask give no
+-- rank, whatever they ask, so `Done` stands for that a call does not fit
 abbrev pub clause_rank : Parts → Site → Scope → Option ℤ
 clause_rank p s scope =
     rank_of

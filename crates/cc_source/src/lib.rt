@@ -23,5 +23,7 @@ pub use cc_typed::{
 };
 pub use early::{Early, EarlyProcess};
 pub use grants::Grants;
-pub use laws::straight_expressions_give_values_of_their_types;
+pub use laws::{
+    straight_expressions_give_values_of_their_types, worked_programs_ask_as_the_language_says,
+};
 pub use program::Program;
