@@ -170,12 +170,10 @@ pub(crate) fn nested_structures(alloc: Global, count: u32) -> Result<Items<Struc
 /// The place `x.a.a ..` of a variable of the last of so many nested structures, down to the `int`.
 pub(crate) fn innermost(alloc: Global, count: u32) -> Result<Location, AllocError> {
     let mut steps = Items::new(alloc);
-    let mut number = count;
-    while number > 1 {
-        number -= 1;
+    for number in (0..count.saturating_sub(1)).rev() {
         steps.push(PartStep::Field {
             field: 0,
-            data_type: structure_type(number - 1),
+            data_type: structure_type(number),
         })?;
     }
     steps.push(PartStep::Field {

@@ -198,9 +198,12 @@ fn requests(
     let Some(program) = Program::new(alloc, parts?)? else {
         return Ok(text);
     };
-    if !program.is_straight() || program.kind_cells(kind) != Some(0) {
+    if !program.is_straight() {
         return Ok(text);
     }
+    let Some(0) = program.kind_cells(kind) else {
+        return Ok(text);
+    };
     let mut grants = Grants::new(alloc);
     for grant in next {
         grants.push(grant)?;
@@ -291,6 +294,7 @@ fn the_type_of_main_counts(rt: HostRuntime) {
     let alloc = rt.alloc();
     let mut parts = call_of_null(alloc).expect(&rt, "memory");
     let main = kind(alloc, DataType::long(), DataType::int(), Items::new(alloc));
+    assert!(rt; !parts.kinds.is_empty());
     parts.kinds.set(0, main.expect(&rt, "memory"));
     let program = Program::new(alloc, parts).expect(&rt, "memory");
     assert!(rt; !program.expect(&rt, "typed").is_straight());
