@@ -68,9 +68,40 @@ def measure(crate):
     show(done.stdout, "deadlines", ("first_due", "remove", "add"))
 
 
+def counted(program, folder, words):
+    """Instructions, misses of the first cache and of the last, of one run."""
+    told = folder / "counts"
+    command = ["valgrind", "--tool=cachegrind", "--cache-sim=yes", "--I1=32768,8,64", "--D1=32768,8,64", "--LL=8388608,16,64",
+               f"--cachegrind-out-file={told}", program, "once", *words]
+    subprocess.run(command, stdout=subprocess.DEVNULL, stderr=subprocess.DEVNULL, check=True)
+    text = told.read_text()
+    events = re.search(r"^events: (.*)$", text, re.M).group(1).split()
+    sums = dict(zip(events, map(int, re.search(r"^summary: (.*)$", text, re.M).group(1).split())))
+    return [sums["Ir"], sums["D1mr"] + sums["D1mw"], sums["DLmr"] + sums["DLmw"]]
+
+
+def count_instructions(crate, folder):
+    done = subprocess.run(["rt", "run", "--jobs", "2", "--", "once", "calls", "16", "16", "0"], cwd=crate, stdout=subprocess.PIPE, text=True)
+    if done.returncode != 0:
+        sys.exit(done.stdout + "the program is not built")
+    print("of one look, one removal and one addition together:")
+    print(f"{'':<10}{'pending':>10}{'transactions':>14}{'instructions':>14}{'first cache':>14}{'last cache':>14}")
+    cases = [("calls", count, kinds) for count, kinds in ((16, 16), (256, 16), (4_096, 16), (65_536, 16), (65_536, 1))]
+    cases += [("deadlines", count, 0) for count in (16, 256, 4_096, 65_536)]
+    for kind, count, kinds in cases:
+        words = [kind, str(count), str(kinds)]
+        none, two = (counted(crate / "out" / "bench", folder, [*words, groups]) for groups in ("0", "2"))
+        calls = 2 * CALLS_OF_A_GROUP
+        per_call = ((more - less) / calls for more, less in zip(two, none))
+        print(f"{kind:<10}{count:>10,}{kinds or '':>14}" + "".join(f"{number:>14.1f}" for number in per_call))
+
+
 def main():
-    with tempfile.TemporaryDirectory() as folder:
-        crate = build(pathlib.Path(folder))
+    with tempfile.TemporaryDirectory() as name:
+        folder = pathlib.Path(name)
+        crate = build(folder)
+        if sys.argv[1:] == ["instructions"]:
+            return count_instructions(crate, folder)
         compare(crate)
         if sys.argv[1:] != ["compare"]:
             measure(crate)

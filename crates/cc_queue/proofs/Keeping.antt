@@ -4,7 +4,7 @@ use Rattle.std.specs.Option.{option_map}
 use Rattle.std.proofs.lemmas.Bool.{cases_eq, eq-eqb, ne_eqb, cond-true, cond-false}
 use Rattle.slab.specs.Slab.{Slab, get, slab_len, HasRoomFor, Updates}
 use Rattle.cc_queue.specs.Chains.{Link, Place, link_of, place_of, places, links, but, call_at, IsNext, IsPrevious, IsChained}
-use Rattle.cc_queue.specs.Calls.{CallList, call_numbered}
+use Rattle.cc_queue.specs.Calls.{AreRising, CallList, call_numbered}
 use Rattle.cc_queue.specs.Kept.{held_calls, in_order, AreKept}
 use Rattle.cc_queue.specs.Room.{HasMore}
 use Rattle.cc_queue.specs.declared.call.PendingCall.{PendingCall}
@@ -13,7 +13,7 @@ use Rattle.cc_queue.specs.declared.node.Chain.{Chain}
 use Rattle.cc_queue.specs.declared.node.Chain.TheVariants.{Transaction, Target}
 use Rattle.cc_queue.specs.declared.node.Node.{Node}
 use Rattle.cc_queue.proofs.Linked.{but_here, but_other}
-use Rattle.cc_queue.proofs.Ordered.{Among, AreRising, among_all, below_among}
+use Rattle.cc_queue.proofs.Ordered.{Among, among_all, below_among}
 use Rattle.cc_queue.proofs.Views.{same_call, among_slot, slot_of, slots_apart, view_added, view_removed}
 
 same_slot : (o : Option ℕ) (s t : ℕ) → o ≡ Some s → o ≡ Some t → s ≡ t

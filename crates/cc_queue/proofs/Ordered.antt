@@ -5,6 +5,7 @@ use Rattle.std.specs.Option.{option_map}
 use Rattle.std.proofs.lemmas.Bool.{ltb-true, ltb-false, eqb-true, eqb-false, eq-eqb, ne_eqb, false≢true, cases_eq, cond-true, cond-false, not-false}
 use Rattle.std.proofs.lemmas.List.Sums.{length-filter, count_by-le-length}
 use Rattle.std.proofs.lemmas.List.Elements.{All-from_recursion, recursion_from_All}
+use Rattle.cc_queue.specs.Calls.{AreRising, IsBelow}
 use Rattle.cc_queue.specs.Kept.{held_calls, put_in_order, in_order}
 use Rattle.cc_queue.specs.declared.call.PendingCall.{PendingCall}
 use Rattle.cc_queue.specs.declared.node.Node.{Node}
@@ -13,16 +14,6 @@ use Rattle.cc_queue.specs.declared.node.Node.{Node}
 abbrev pub Among : PendingCall → List PendingCall → Type 0
 Among c [] = ⊥
 Among c (d ∷ ds) = (d ≡ c) ⊎ Among c ds
-
--- the call has a number below these
-abbrev pub IsBelow : PendingCall → List PendingCall → Type 0
-IsBelow c [] = Unit {0}
-IsBelow c (d ∷ ds) = (c.number.0 < d.number.0) × IsBelow c ds
-
--- the numbers rise
-abbrev pub AreRising : List PendingCall → Type 0
-AreRising [] = Unit {0}
-AreRising (c ∷ cs) = IsBelow c cs × AreRising cs
 
 -- no call of the list has the number of this one
 abbrev pub Differs : PendingCall → List PendingCall → Type 0

@@ -3,6 +3,7 @@ use Rattle.std.proofs.Common.{◌≡◌, ◌≢◌, ℕ, ◌<◌, ◌⊎◌, Boo
 use Rattle.std.specs.Option.{option_map}
 use Rattle.std.proofs.lemmas.Bool.{cases_eq, eq-eqb, ne_eqb, both_ways}
 use Rattle.slab.specs.Slab.{Slab, get}
+use Rattle.cc_queue.specs.Calls.{AreRising}
 use Rattle.cc_queue.specs.Chains.{Link, Place, link_of, place_of, places, links, call_at, IsChained}
 use Rattle.cc_queue.specs.Kept.{held_calls, in_order}
 use Rattle.cc_queue.specs.declared.call.PendingCall.{PendingCall}
@@ -10,7 +11,7 @@ use Rattle.cc_queue.specs.declared.chains.Ends.{Ends}
 use Rattle.cc_queue.specs.declared.node.Chain.{Chain}
 use Rattle.cc_queue.specs.declared.node.Chain.TheVariants.{Transaction, Target}
 use Rattle.cc_queue.specs.declared.node.Node.{Node}
-use Rattle.cc_queue.proofs.Ordered.{Among, AreRising, in_slot, SlotsApart, among_held, held_among, held_distinct, among_in_order, in_order_among, in_order_rising, same_calls, append_rising, among_append, append_among, filter_rising, among_filter, filter_among}
+use Rattle.cc_queue.proofs.Ordered.{Among, in_slot, SlotsApart, among_held, held_among, held_distinct, among_in_order, in_order_among, in_order_rising, same_calls, append_rising, among_append, append_among, filter_rising, among_filter, filter_among}
 
 -- the place of a slot's call
 place_of_call : (o : Option Node) (c : PendingCall) → option_map (λ (n : Node). n.call) o ≡ Some c → (p : Place) × (option_map place_of (option_map (link_of Transaction) o) ≡ Some p) × (p.number ≡ c.number.0)

@@ -4,7 +4,7 @@ ghost use Rattle.std.specs.Option.{option_map};
 ghost use Rattle.slab.specs.Slab.{HasRoomFor};
 ghost use Rattle.cc_queue.specs.Chains.{is_lane};
 ghost use Rattle.cc_queue.specs.Room.{HasMore, HasMoreIn};
-ghost use Rattle.cc_queue.specs.Calls.{call_numbered, pending_call};
+ghost use Rattle.cc_queue.specs.Calls.{AreRising, call_numbered, pending_call};
 ghost use Rattle.cc_queue.specs.Choice.{better, is_chosen, rank};
 ghost use Rattle.cc_queue.specs.declared.call.PendingCall.{PendingCall};
 
@@ -55,6 +55,14 @@ impl Queues {
             targets: HashMap::new(alloc),
             spare: 0,
         }
+    }
+
+    /// The calls stand in the order of their numbers, and no two have one number. This is a law: it looks at the calls, which are
+    /// kept so, and does nothing.
+    pub fn numbers_rise(&self)
+        ensures rising { AreRising self.now.calls }
+    {
+        let _kept = &self.nodes;
     }
 
     /// Makes room for at least this many more. After an error nothing has changed.
