@@ -1,5 +1,5 @@
 -- The kernel keeps its run where a process goes out, and what a process asks is done.
-use Rattle.std.proofs.Common.{◌≡◌, ℕ, ◌+◌, ◌<◌, ◌≤◌, ℤ, Bool, true, false, List, [], ◌∷◌, ◌++◌, length, set, map, refl, sym, ap, ◌∙◌, subst, arith, append_assoc, cond, nat_eq, rules}
+use Rattle.std.proofs.Common.{◌≡◌, ℕ, zero, suc, ◌+◌, ◌<◌, ◌≤◌, ℤ, Bool, true, false, List, [], ◌∷◌, ◌++◌, length, set, map, refl, sym, ap, ◌∙◌, subst, arith, append_assoc, cond, nat_eq, rules}
 use Rattle.std.specs.Prelude.{All}
 use Rattle.std.specs.List.{filter}
 use Rattle.std.proofs.lemmas.List.Elements.{All-cons, All-head, All-nil, All-tail}
@@ -9,9 +9,11 @@ use Rattle.cc_base.specs.declared.request.Grant.{Grant}
 use Rattle.cc_kernel.proofs.Seated.{Seated-at, Seated-out, ready-at}
 use Rattle.cc_kernel.specs.Invariant.{IsKept, IsReadyFor}
 use Rattle.cc_kernel.specs.Store.{IsReady, IsState, Contents, Seated, contents}
-use Rattle.cc_kernel.specs.Lists.{SeatList}
+use Rattle.cc_kernel.specs.Lists.{CallList, SeatList, ServedList}
 use Rattle.cc_rules.specs.Lists.{FaultList}
-use Rattle.cc_kernel.specs.Seats.{is_served_by, seat_at, served_call, with_out}
+use Rattle.cc_base.specs.Limits.{most_processes}
+use Rattle.cc_base.specs.declared.request.Grant.TheVariants.{Go}
+use Rattle.cc_kernel.specs.Seats.{is_served_by, seat_at, served_call, with_out, with_ready}
 use Rattle.cc_kernel.specs.declared.served.ServedCall.{ServedCall}
 use Rattle.cc_kernel.specs.declared.store.Store.{Store}
 use Rattle.cc_kernel.specs.declared.need.Need.{Need}
@@ -92,6 +94,49 @@ module _ {P : Type 0} (m : Meaning) (located : P → ℕ → List ℤ → List G
         unlisted = k.unlisted;
         listable = k.listable;
       }
+
+  -- the first process is ready
+  pub kept-first :
+      (allowed room : ℕ) (input : List ℕ) (seats : SeatList P) (pending : CallList) (served : ServedList) (events : List Event) (faults : FaultList) (process : P)
+      → seats.items ≡ with_ready process Go ∷ []
+      → pending.items ≡ []
+      → served.items ≡ []
+      → events ≡ []
+      → faults.items ≡ []
+      → most_processes ≤ faults.spare
+      → located process 0 [] []
+      → IsKept m located allowed 0 events room
+      (record { seats = seats; pending = pending; served = served; drawn = 0; input = input; taken = 0; moment = 0 })
+      need.Nothing faults
+  kept-first allowed room input seats pending served events faults process here none none' begun unlisted listable is =
+      rw begun
+      (record {
+        runs = tt;
+        settled = IsSettled-by_test m (first_state input) refl;
+        state =
+            record {
+              seated = rw here (record { standing = refl; whereabouts = (refl, ([], refl, is)); plain = tt }, tt);
+              few = rw here (omega arith);
+              pending = none;
+              served = λ i. ap (filter (is_served_by i)) none' ∙ sym (first-serves i);
+              drawn = refl;
+              input = refl;
+              moment = refl;
+              rising = omega arith;
+              untimed = tt;
+            };
+        quiet = refl;
+        spent_turns = refl;
+        within = omega arith;
+        low = omega arith;
+        ready = tt;
+        unlisted = unlisted;
+        listable = listable;
+      })
+    where
+      first-serves : (i : ℕ) → map served_call (process_at (first_state input).processes i).serving ≡ []
+      first-serves zero = refl
+      first-serves (suc i) = refl
 
   pub kept-ready :
       (input : List ℕ) (events : List Event) (seats : List (Seat P)) (i : ℕ) (process : P) (grant : Grant)

@@ -8,6 +8,7 @@ pub mod Outs
 pub mod Chosen
 pub mod Simulates
 pub mod Plain
+pub mod Counted
 pub mod Known
 pub mod Settling
 pub mod Ending

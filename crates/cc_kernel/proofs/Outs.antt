@@ -8,7 +8,7 @@ use Rattle.cc_base.specs.declared.names.Pid.{Pid}
 use Rattle.cc_base.specs.declared.request.Grant.{Grant}
 use Rattle.cc_base.specs.declared.request.Grant.TheVariants.{Gone}
 use Rattle.cc_kernel.specs.Contract.{is_out_in}
-use Rattle.cc_kernel.specs.Seats.{answered_seats, gone_seats, is_out, whereabouts_out, seat_at, vacant, woken, whereabouts_woken}
+use Rattle.cc_kernel.specs.Seats.{answered_seats, gone_seats, is_out, is_ready, whereabouts_out, whereabouts_ready, seat_at, vacant, woken, whereabouts_woken}
 use Rattle.cc_kernel.specs.declared.seat.Whereabouts.{Whereabouts}
 use Rattle.cc_kernel.specs.declared.seat.Whereabouts.TheVariants.{Ready, Out, Waits, Left}
 use Rattle.cc_kernel.specs.declared.seat.Seat.{Seat}
@@ -23,6 +23,16 @@ module _ {P : Type 0} where
   out-at [] i h = cc
   out-at (seat ∷ seats) zero h = (omega arith, h)
   out-at (seat ∷ seats) (suc i) h = let r = out-at seats i h in (let lt : i < length seats = r.0 in omega arith, r.1)
+
+  -- a process that is out is not ready
+  pub out-not-ready : (seats : List (Seat P)) (i : ℕ) → is_out_in (map is_out seats) i ≡ true → is_ready (seat_at seats i) ≡ false
+  out-not-ready seats i h = not-there (seat_at seats i).whereabouts (out-at seats i h).1
+    where
+      not-there : (x : Whereabouts P) → whereabouts_out x ≡ true → whereabouts_ready x ≡ false
+      not-there (Ready process grant) h = cc
+      not-there Out h = refl
+      not-there (Waits process) h = refl
+      not-there Left h = refl
 
   pub in-at :
       (seats : List (Seat P)) (i : ℕ) (b : Bool)

@@ -13,7 +13,7 @@ use Rattle.cc_kernel.proofs.Serving.{AllUntimed-filter, Rising-filter, found-by-
 use Rattle.cc_kernel.proofs.Simulates.{map-append, same-or-not, serving-other, serving-own, serving-set}
 use Rattle.cc_base.specs.Alternatives.{numbered}
 use Rattle.cc_base.specs.declared.names.Pid.{Pid}
-use Rattle.cc_kernel.specs.Choice.{goes_at_once, takes}
+use Rattle.cc_kernel.specs.Choice.{eligible_for, goes_at_once, takes}
 use Rattle.cc_rules.specs.Choice.{has_eligible, has_immediate, is_immediate, takes_at_once}
 use Rattle.std.specs.Option.{option_map_or}
 use Rattle.std.proofs.lemmas.Bool.{and_parts}
@@ -33,7 +33,7 @@ use Rattle.cc_rules.specs.declared.process.ProcessStanding.{ProcessStanding}
 use Rattle.cc_rules.specs.declared.process.ProcessStanding.TheVariants.{Running, AtSelect, AtDelay, AtCall, Ended, Faulted}
 use Rattle.cc_rules.specs.declared.process.TransactionCall.{TransactionCall}
 
-takes-waiting :
+pub takes-waiting :
     (m : Meaning) (x : ProcessStanding) (calls : List TransactionCall) (i : ℕ) (call : TransactionCall)
     → takes m x calls i call ≡ true
     → (is_running x ≡ false) × (is_over x ≡ false)
@@ -54,6 +54,12 @@ immediate-waiting (AtDelay deadline) i h = (refl, refl)
 immediate-waiting (AtCall number) i h = (refl, refl)
 immediate-waiting Ended i h = cc
 immediate-waiting (Faulted kind) i h = cc
+
+pub goes-waiting :
+    (m : Meaning) (p : ℕ) (x : ProcessStanding) (calls : List TransactionCall) (i : ℕ)
+    → goes_at_once m p x calls i ≡ true
+    → (is_running x ≡ false) × (is_over x ≡ false)
+goes-waiting m p x calls i h = immediate-waiting x i (and_parts (option_map_or is_immediate (numbered (open_alternatives x) i) false) (not (eligible_for m p x calls)) h).0
 
 -- who takes a call has a seat
 pub takes-within :

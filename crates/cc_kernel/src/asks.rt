@@ -1,13 +1,12 @@
-ghost use Rattle.std.specs.Prelude.{◌≡◌, ◌+◌, ◌<◌, ◌≤◌, length, nat_lt, if◌then◌else◌};
+ghost use Rattle.std.specs.Prelude.{◌≡◌, ◌+◌, ◌<◌, ◌≤◌, false, true, length, nat_lt, if◌then◌else◌};
 ghost use Rattle.cc_base.specs.declared.names.FaultKind.TheVariants.{TooMany};
 ghost use Rattle.cc_base.specs.declared.request.Grant.TheVariants.{Go, Gone};
 ghost use Rattle.cc_kernel.specs.Store.{called_contents, got_byte, left_contents, made_contents, contents, sent_contents, waited, went_on};
-ghost use Rattle.cc_kernel.specs.Seats.{seat_at};
+ghost use Rattle.cc_kernel.specs.Seats.{is_ready, seat_at};
 ghost use Rattle.cc_base.specs.Limits.{most_processes};
 ghost use Rattle.cc_rules.specs.State.{is_over};
 ghost use Rattle.cc_rules.specs.declared.process.ProcessStanding.TheVariants.{AtSelect, Faulted};
 
-use crate::seat::{Seat, Whereabouts};
 use crate::store::Store;
 use cc_base::limits::MOST_PROCESSES;
 use cc_base::{Alts, Behave, CallId, Cells, FaultKind, Grant, Pid};
@@ -15,7 +14,8 @@ use cc_rules::{ProcessStanding, TransactionCall, Waiting};
 
 /// The process goes on with this grant.
 pub(crate) fn go_on<P: Drop>(store: &mut Store<P>, pid: Pid, process: P, grant: Grant)
-    requires { pid.0 < length store.old.seats.items }
+    requires within { pid.0 < length store.old.seats.items }
+    requires idle { is_ready (seat_at store.old.seats.items pid.0) ≡ false }
     ensures contents { contents store.new ≡ went_on (contents store.old) pid.0 process grant }
     ensures room { store.old.served.spare ≤ store.new.served.spare }
     ensures calls { length store.new.pending.items ≤ length store.old.pending.items + 1 }
@@ -25,7 +25,8 @@ pub(crate) fn go_on<P: Drop>(store: &mut Store<P>, pid: Pid, process: P, grant: 
 
 /// The process waits for one of these alternatives.
 pub(crate) fn select<P: Drop>(store: &mut Store<P>, pid: Pid, process: P, alts: Alts)
-    requires { pid.0 < length store.old.seats.items }
+    requires within { pid.0 < length store.old.seats.items }
+    requires idle { is_ready (seat_at store.old.seats.items pid.0) ≡ false }
     ensures contents { contents store.new ≡ waited (contents store.old) pid.0 process (AtSelect alts store.old.moment) }
     ensures room { store.old.served.spare ≤ store.new.served.spare }
     ensures calls { length store.new.pending.items ≤ length store.old.pending.items + 1 }
@@ -39,7 +40,8 @@ pub(crate) fn select<P: Drop>(store: &mut Store<P>, pid: Pid, process: P, alts: 
 
 /// The process takes the next byte of the input.
 pub(crate) fn get<P: Drop>(store: &mut Store<P>, pid: Pid, process: P)
-    requires { pid.0 < length store.old.seats.items }
+    requires within { pid.0 < length store.old.seats.items }
+    requires idle { is_ready (seat_at store.old.seats.items pid.0) ≡ false }
     ensures contents { contents store.new ≡ got_byte (contents store.old) pid.0 process }
     ensures room { store.old.served.spare ≤ store.new.served.spare }
     ensures calls { length store.new.pending.items ≤ length store.old.pending.items + 1 }
@@ -63,6 +65,7 @@ pub(crate) fn call<P: Drop>(
     args: Cells,
 )
     requires within { pid.0 < length store.old.seats.items }
+    requires idle { is_ready (seat_at store.old.seats.items pid.0) ≡ false }
     requires room { 0 < store.old.pending.spare }
     requires few { store.old.drawn < 4294967295 }
     ensures contents { contents store.new ≡ (if is_over (seat_at store.old.seats.items target.0).standing then went_on (contents store.old) pid.0 process Gone else called_contents (contents store.old) pid process target trans args) }
@@ -99,6 +102,7 @@ pub(crate) fn send<P: Drop>(
     args: Cells,
 )
     requires within { pid.0 < length store.old.seats.items }
+    requires idle { is_ready (seat_at store.old.seats.items pid.0) ≡ false }
     requires room { 0 < store.old.pending.spare }
     requires few { store.old.drawn < 4294967295 }
     ensures contents { contents store.new ≡ (if is_over (seat_at store.old.seats.items target.0).standing then went_on (contents store.old) pid.0 process Go else sent_contents (contents store.old) pid process target trans args) }
@@ -122,7 +126,9 @@ pub(crate) fn send<P: Drop>(
 
 /// The process is over, and whoever waits for it goes on.
 pub(crate) fn leave<P: Drop>(store: &mut Store<P>, pid: Pid, standing: ProcessStanding)
-    requires { pid.0 < length store.old.seats.items }
+    requires within { pid.0 < length store.old.seats.items }
+    requires idle { is_ready (seat_at store.old.seats.items pid.0) ≡ false }
+    requires over { is_over standing ≡ true }
     ensures contents { contents store.new ≡ left_contents (contents store.old) pid.0 standing }
     ensures room { store.old.served.spare ≤ store.new.served.spare }
     ensures calls { length store.new.pending.items ≤ length store.old.pending.items + 1 }
@@ -137,6 +143,7 @@ pub(crate) fn leave<P: Drop>(store: &mut Store<P>, pid: Pid, standing: ProcessSt
 /// The process has made another, where there are not too many.
 pub(crate) fn create<P: Drop>(store: &mut Store<P>, pid: Pid, process: P, new: P)
     requires within { pid.0 < length store.old.seats.items }
+    requires idle { is_ready (seat_at store.old.seats.items pid.0) ≡ false }
     requires room { 0 < store.old.seats.spare }
     ensures contents { contents store.new ≡ (if nat_lt (length store.old.seats.items) most_processes then made_contents (contents store.old) pid.0 process new else left_contents (contents store.old) pid.0 (Faulted TooMany)) }
     ensures room { store.old.served.spare ≤ store.new.served.spare }
@@ -156,11 +163,5 @@ pub(crate) fn create<P: Drop>(store: &mut Store<P>, pid: Pid, process: P, new: P
     store
         .seats
         .put_ready(pid.0 as usize, process, Grant::Made(Pid(count as u32)));
-    store.seats.add(Seat {
-        standing: ProcessStanding::Running,
-        whereabouts: Whereabouts::Ready {
-            process: new,
-            grant: Grant::Go,
-        },
-    });
+    store.seats.add(new, Grant::Go);
 }

@@ -189,8 +189,8 @@ fn has_immediate(alts: &Alts) -> bool
     false
 }
 
-// Whether `terminate` is one of the alternatives.
-fn has_terminate(alts: &Alts) -> bool
+/// Whether `terminate` is one of the alternatives.
+pub(crate) fn has_terminate(alts: &Alts) -> bool
     ensures { result ≡ list_any (λ a. is_terminate a.1) alts.now }
 {
     for at in 0..alts.len() {

@@ -12,13 +12,12 @@ use crate::faults::list_faults;
 use crate::need::Need;
 use crate::perform::perform;
 use crate::prepare::{make_room, need_of};
-use crate::seat::{Seat, Whereabouts};
 use crate::seats::Seats;
 use crate::settle::settle;
 use crate::store::Store;
 use cc_base::limits::MOST_PROCESSES;
 use cc_base::{Behave, Bytes, Cells, Grant, Memory, Pid, Request};
-use cc_rules::{Event, Faults, Journal, ProcessStanding, Standing, Word};
+use cc_rules::{Event, Faults, Journal, Standing, Word};
 use std::alloc::Global;
 use std::marker::Model;
 use std::mem;
@@ -62,14 +61,8 @@ impl<B: Behave> Kernel<B> {
     {
         let process = B::start(&code, alloc, 0, Cells::new(alloc))?;
         let mut seats = Seats::new(alloc);
-        seats.reserve(1)?;
-        seats.add(Seat {
-            standing: ProcessStanding::Running,
-            whereabouts: Whereabouts::Ready {
-                process,
-                grant: Grant::Go,
-            },
-        });
+        seats.reserve_one()?;
+        seats.add(process, Grant::Go);
         let mut faults = Faults::new(alloc);
         faults.reserve(MOST_PROCESSES as usize)?;
         Ok(Kernel {
@@ -161,13 +154,10 @@ impl<B: Behave> Kernel<B> {
         if self.spent == self.turns {
             return None;
         }
-        let Some(at) = self.store.seats.first_ready() else {
+        let Some((at, process, grant)) = self.store.seats.take_first() else {
             return None;
         };
-        match self.store.seats.take(at) {
-            Some((process, grant)) => Some((Pid(at as u32), process, grant)),
-            None => unreachable!(),
-        }
+        Some((Pid(at as u32), process, grant))
     }
 
     /// How the run stands. It is never idle, since no request that it performs has a deadline.

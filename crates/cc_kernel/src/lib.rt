@@ -4,7 +4,9 @@
 //!
 //! What is kept (`Store`) are lists: a seat for each process by number, the pending calls in the order asked, and the calls
 //! that are being served in the order accepted. A seat says how its process stands and its whereabouts: ready with its next
-//! grant, out, waiting, or gone. The state of the machine isn't stored. It is the run of the journal, and the kernel's
+//! grant, out, waiting, or gone. Beside the seats stand how many processes run, are over, were stopped by a fault or have
+//! `terminate` among their alternatives, and the numbers of those that are ready, in the order in which they became so
+//! (`AreKept` in `specs/Counted`): a count changes where a standing does. The state of the machine isn't stored. It is the run of the journal, and the kernel's
 //! invariant says that what is kept is that state (`IsState` in `specs/Store`, `IsKept` in `specs/Invariant`).
 //!
 //! A step has three parts: what the process asks is performed (`perform`), the journal says so, and the machine settles
@@ -19,8 +21,8 @@
 //! pending call, for as many served calls as are pending, for one more seat, the process that a Create makes, and the value
 //! of a Reply with enough zeros at its end.
 //!
-//! What a step costs grows with the processes, the pending calls and the served ones, and not with the journal: `pick` and
-//! `state` walk the seats; a Reply, an end and a fault walk the served calls; and `settle` holds each pending call whose
+//! `pick` and `state` take constant time, and the process that has been ready for longest is picked. What a step costs grows
+//! with the processes, the pending calls and the served ones, and not with the journal: a Reply, an end and a fault walk the served calls; and `settle` holds each pending call whose
 //! target waits at a `select` against every other one, and each process that waits there against the pending calls, once
 //! more after each event.
 #![tactic(auto)]
@@ -28,6 +30,7 @@
 mod asks;
 mod calls;
 mod choice;
+mod counts;
 mod faults;
 mod kernel;
 mod need;

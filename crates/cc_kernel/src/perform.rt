@@ -3,7 +3,7 @@ ghost use Rattle.cc_kernel.specs.Untimed.{HasNoDeadline};
 ghost use Rattle.cc_kernel.specs.Contract.{Answering, Making, IsEnoughFor, SameOuts};
 ghost use Rattle.cc_kernel.specs.Invariant.{IsReadyFor, prepared_for};
 ghost use Rattle.cc_kernel.specs.Store.{IsLocated, IsState, contents};
-ghost use Rattle.cc_kernel.specs.Seats.{is_out};
+ghost use Rattle.cc_kernel.specs.Seats.{is_out, is_ready, seat_at};
 ghost use Rattle.cc_kernel.specs.declared.need.Need.TheVariants as variant;
 ghost use Rattle.cc_base.specs.Grants.{value_cells};
 ghost use Rattle.cc_rules.specs.Effects.{effect, replied};
@@ -27,6 +27,7 @@ fn reply<B: Behave>(
     mut value: Cells,
 )
     requires within { pid.0 < length store.old.seats.items }
+    requires idle { is_ready (seat_at store.old.seats.items pid.0) ≡ false }
     requires known { All (λ call. call.trans < length (B.means code.now).shapes) store.old.served.items }
     ensures state { (s : State) (asked : List ℤ) (zeros : ℕ) → value ≡ asked ++ replicate zeros (pos 0) → All (λ call. value_cells (B.means code.now) call.trans ≤ zeros) store.old.served.items → IsState (B.at code.now) s (contents store.old) → IsLocated (B.at code.now) s pid.0 process → IsState (B.at code.now) (replied (B.means code.now) s pid.0 asked) (contents store.new) }
     ensures input { store.new.input ≡ store.old.input }
@@ -53,6 +54,7 @@ fn change_store<B: Behave>(
     need: Need<B::Proc>,
 )
     requires within { pid.0 < length store.old.seats.items }
+    requires idle { is_ready (seat_at store.old.seats.items pid.0) ≡ false }
     requires calls { 0 < store.old.pending.spare }
     requires seats { 0 < store.old.seats.spare }
     requires few { store.old.drawn < 4294967295 }
@@ -115,6 +117,7 @@ pub(crate) fn perform<B: Behave>(
     need: Need<B::Proc>,
 ) -> Bytes
     requires within { pid.0 < length store.old.seats.items }
+    requires idle { is_ready (seat_at store.old.seats.items pid.0) ≡ false }
     requires calls { 0 < store.old.pending.spare }
     requires seats { 0 < store.old.seats.spare }
     requires few { store.old.drawn < 4294967295 }

@@ -29,7 +29,7 @@ pub(crate) fn make_room<P: Drop>(store: &mut Store<P>, journal: &mut Journal) ->
     journal.reserve(store.seats.len() + 3)?;
     store.pending.reserve(1)?;
     store.served.reserve(pending + 1)?;
-    store.seats.reserve(1)
+    store.seats.reserve_one()
 }
 
 // The most cells that the value of one of these calls has.

@@ -1,31 +1,45 @@
-ghost use Rattle.std.specs.Prelude.{◌≡◌, [], ◌∷◌, ◌++◌, ◌+◌, ◌<◌, ◌≤◌, length, map, set, ℕ, true, false, OnOk, OnErr, MatchOption, not};
+ghost use Rattle.std.specs.Prelude.{◌≡◌, [], ◌∷◌, ◌++◌, ◌+◌, ◌<◌, ◌≤◌, length, map, set, ℕ, true, false, OnOk, OnErr, MatchOption, not, if◌then◌else◌};
 ghost use Rattle.std.specs.List.{filter, list_all, list_any};
 ghost use Rattle.cc_rules.specs.Effects.{is_for, waits_for};
 ghost use Rattle.cc_rules.specs.State.{is_faulted, is_over, is_running};
 ghost use Rattle.cc_kernel.specs.Seats.{answered_seats, gone_seats, is_ready, is_served_by, seat_at, served_call, with_left, with_out, with_ready, with_waiting, woken};
+ghost use Rattle.cc_base.specs.Limits.{most_processes};
+ghost use Rattle.std.specs.VecDeque.{deque_capacity};
+ghost use Rattle.cc_kernel.specs.Counted.{Agrees, IsWaiting};
 ghost use Rattle.cc_kernel.specs.declared.seat.Whereabouts.TheVariants.{Ready};
+ghost use Rattle.cc_rules.specs.declared.process.ProcessStanding.TheVariants.{Ended};
 
+use crate::counts::Counts;
 use crate::seat::{Seat, Whereabouts};
 use crate::served::{ServedCall, served_call};
 use cc_base::{CallId, Grant, Memory, Pid};
 use cc_rules::{ProcessStanding, TransactionCall};
 use std::alloc::Global;
+use std::collections::VecDeque;
 use std::marker::Model;
 use std::mem;
 
-/// The seats of the processes, by number, with room for more.
+/// The seats of the processes, by number, with room for more. Beside them stand how many processes stand how, and the list of
+/// those that are ready, in the order in which they became so.
 #[derive(Drop)]
 pub struct Seats<P> {
     items: Vec<Seat<P>>,
+    counts: Counts,
+    ready: VecDeque<usize>,
+    spare: usize,
 }
 
 impl<P> Model for Seats<P> {
-    ghost use Rattle.std.specs.Prelude.{◌-◌, vec_len, vec_capacity};
+    ghost use Rattle.std.specs.Prelude.{vec_capacity};
+    ghost use Rattle.std.specs.VecDeque.{deque_capacity};
+    ghost use Rattle.cc_kernel.specs.Counted.{AreKept};
     ghost use Rattle.cc_kernel.specs.Lists.{SeatList};
 
     ghost Value = { SeatList P };
 
-    ghost view = { λ c. record { items = c.items.items; spare = vec_capacity c.items - vec_len c.items } };
+    ghost view = { λ c. record { items = c.items.items; spare = c.spare } };
+
+    ghost invariant = { λ c. AreKept c.items.items c.counts c.ready.items c.spare (vec_capacity c.items) (deque_capacity c.ready) };
 }
 
 impl<P: Drop> Seats<P> {
@@ -34,6 +48,9 @@ impl<P: Drop> Seats<P> {
     {
         Seats {
             items: Vec::new(alloc),
+            counts: Counts::new(),
+            ready: VecDeque::new(alloc),
+            spare: 0,
         }
     }
 
@@ -43,22 +60,48 @@ impl<P: Drop> Seats<P> {
         self.items.len()
     }
 
-    /// Makes room for at least this many more. After an error nothing has changed.
-    pub(crate) fn reserve(&mut self, more: usize) -> Result<(), Memory>
+    /// Makes room for one more. After an error nothing has changed.
+    pub(crate) fn reserve_one(&mut self) -> Result<(), Memory>
         ensures items { self.new.items ≡ self.old.items }
-        ensures ok { OnOk result (more ≤ self.new.spare) }
+        ensures ok { OnOk result (0 < self.new.spare) }
         ensures err { OnErr result (self.new ≡ self.old) }
     {
-        self.items.reserve(more)?;
+        if self.spare > 0 {
+            return Ok(());
+        }
+        let wanted = self.items.len() + 1;
+        self.items.reserve(1)?;
+        self.ready.reserve(wanted - self.ready.len())?;
+        self.spare = 1;
         Ok(())
     }
 
-    /// Puts a seat at the end, in the room that was made before.
-    pub(crate) fn add(&mut self, seat: Seat<P>)
-        requires { 0 < self.old.spare }
-        ensures { self.new.items ≡ self.old.items ++ seat ∷ [] }
+    /// Puts a process at the end, in the room that was made before. It is still to be given this grant.
+    pub(crate) fn add(&mut self, process: P, grant: Grant)
+        requires room { 0 < self.old.spare }
+        requires few { length self.old.items < most_processes }
+        ensures { self.new.items ≡ self.old.items ++ with_ready process grant ∷ [] }
     {
-        self.items.push_reserved(seat);
+        self.counts.running += 1;
+        self.ready.push_back_reserved(self.items.len());
+        self.items.push_reserved(Seat {
+            standing: ProcessStanding::Running,
+            whereabouts: Whereabouts::Ready { process, grant },
+        });
+        self.spare -= 1;
+    }
+
+    // Puts a seat in place of one whose process is not ready.
+    fn put(&mut self, at: usize, seat: Seat<P>)
+        requires within { at < length self.old.items }
+        requires idle { is_ready (seat_at self.old.items at) ≡ false }
+        requires agrees { Agrees seat.standing seat.whereabouts }
+        ensures items { self.new.items ≡ set self.old.items at seat }
+        ensures spare { self.new.spare ≡ self.old.spare }
+    {
+        self.counts.change(&self.items[at].standing, &seat.standing);
+        list_where_ready(&mut self.ready, at, &seat);
+        self.items[at] = seat;
     }
 
     pub(crate) fn standing(&self, at: usize) -> Option<&ProcessStanding>
@@ -73,81 +116,95 @@ impl<P: Drop> Seats<P> {
 
     /// The process is here, and is still to be given this grant.
     pub(crate) fn put_ready(&mut self, at: usize, process: P, grant: Grant)
-        requires { at < length self.old.items }
+        requires within { at < length self.old.items }
+        requires idle { is_ready (seat_at self.old.items at) ≡ false }
         ensures items { self.new.items ≡ set self.old.items at (with_ready process grant) }
         ensures spare { self.new.spare ≡ self.old.spare }
     {
-        self.items[at] = Seat {
-            standing: ProcessStanding::Running,
-            whereabouts: Whereabouts::Ready { process, grant },
-        };
+        let standing = ProcessStanding::Running;
+        let whereabouts = Whereabouts::Ready { process, grant };
+        self.put(
+            at,
+            Seat {
+                standing,
+                whereabouts,
+            },
+        );
     }
 
     /// The process is here, and waits.
     pub(crate) fn put_waiting(&mut self, at: usize, process: P, standing: ProcessStanding)
-        requires { at < length self.old.items }
+        requires within { at < length self.old.items }
+        requires idle { is_ready (seat_at self.old.items at) ≡ false }
+        requires waits { IsWaiting standing }
         ensures { self.new.items ≡ set self.old.items at (with_waiting process standing) }
     {
-        self.items[at] = Seat {
-            standing,
-            whereabouts: Whereabouts::Waits { process },
-        };
+        let whereabouts = Whereabouts::Waits { process };
+        self.put(
+            at,
+            Seat {
+                standing,
+                whereabouts,
+            },
+        );
     }
 
     /// The process is over.
     pub(crate) fn put_left(&mut self, at: usize, standing: ProcessStanding)
-        requires { at < length self.old.items }
+        requires within { at < length self.old.items }
+        requires idle { is_ready (seat_at self.old.items at) ≡ false }
+        requires over { is_over standing ≡ true }
         ensures { self.new.items ≡ set self.old.items at (with_left standing) }
     {
+        let whereabouts = Whereabouts::Left;
+        self.put(
+            at,
+            Seat {
+                standing,
+                whereabouts,
+            },
+        );
+    }
+
+    /// The process, which waits, has ended.
+    pub(crate) fn end(&mut self, at: usize)
+        requires within { at < length self.old.items }
+        requires waits { IsWaiting (seat_at self.old.items at).standing }
+        ensures { self.new.items ≡ set self.old.items at (with_left Ended) }
+    {
+        self.counts
+            .change(&self.items[at].standing, &ProcessStanding::Ended);
         self.items[at] = Seat {
-            standing,
+            standing: ProcessStanding::Ended,
             whereabouts: Whereabouts::Left,
         };
     }
 
-    /// Takes a process out that is ready.
-    pub(crate) fn take(&mut self, at: usize) -> Option<(P, Grant)>
-        requires { at < length self.old.items }
-        ensures whereabouts { MatchOption result ((self.new.items ≡ self.old.items) × (is_ready (seat_at self.old.items at) ≡ false)) (λ r. ((seat_at self.old.items at).whereabouts ≡ Ready r.0 r.1) × (self.new.items ≡ set self.old.items at (with_out (seat_at self.old.items at)))) }
+    /// Takes the process out that has been ready for longest. None exactly where none is ready.
+    pub(crate) fn take_first(&mut self) -> Option<(usize, P, Grant)>
+        ensures whereabouts { MatchOption result ((self.new ≡ self.old) × ((i : ℕ) → is_ready (seat_at self.old.items i) ≡ false)) (λ r. (r.0 < length self.old.items) × ((seat_at self.old.items r.0).whereabouts ≡ Ready r.1 r.2) × (self.new.items ≡ set self.old.items r.0 (with_out (seat_at self.old.items r.0)))) }
         ensures spare { self.new.spare ≡ self.old.spare }
     {
+        let Some(at) = self.ready.pop_front() else {
+            return None;
+        };
         let seat = &mut self.items[at];
         match mem::replace(&mut seat.whereabouts, Whereabouts::Out) {
-            Whereabouts::Ready { process, grant } => Some((process, grant)),
-            other => {
-                seat.whereabouts = other;
-                None
-            }
+            Whereabouts::Ready { process, grant } => Some((at, process, grant)),
+            _other => unreachable!(),
         }
-    }
-
-    /// The first process that is ready.
-    pub(crate) fn first_ready(&self) -> Option<usize>
-        ensures { MatchOption result ((i : ℕ) → is_ready (seat_at self.now.items i) ≡ false) (λ i. (i < length self.now.items) × (is_ready (seat_at self.now.items i) ≡ true)) }
-    {
-        for (i, seat) in self.items.iter().enumerate() {
-            if is_ready(seat) {
-                return Some(i);
-            }
-        }
-        None
     }
 
     /// The process, which waits, goes on with this grant.
     pub(crate) fn wake(&mut self, at: usize, grant: Grant)
-        requires { at < length self.old.items }
+        requires within { at < length self.old.items }
+        requires waits { IsWaiting (seat_at self.old.items at).standing }
         ensures { self.new.items ≡ set self.old.items at (woken (seat_at self.old.items at) grant) }
     {
-        let seat = &mut self.items[at];
-        seat.standing = ProcessStanding::Running;
-        match mem::replace(&mut seat.whereabouts, Whereabouts::Out) {
-            Whereabouts::Waits { process } => {
-                seat.whereabouts = Whereabouts::Ready { process, grant };
-            }
-            other => {
-                seat.whereabouts = other;
-            }
-        }
+        self.counts
+            .change(&self.items[at].standing, &ProcessStanding::Running);
+        self.ready.push_back_reserved(at);
+        go_on(&mut self.items[at], grant);
     }
 
     // Whether the process waits for the call of this number.
@@ -209,44 +266,46 @@ impl<P: Drop> Seats<P> {
     pub(crate) fn all_over(&self) -> bool
         ensures { result ≡ list_all (λ seat. is_over seat.standing) self.now.items }
     {
-        for seat in &self.items {
-            if !seat.standing.is_over() {
-                return false;
-            }
-        }
-        true
+        self.counts.over == self.items.len()
     }
 
     /// Whether some process is running.
     pub(crate) fn some_running(&self) -> bool
         ensures { result ≡ list_any (λ seat. is_running seat.standing) self.now.items }
     {
-        for seat in &self.items {
-            if seat.standing.is_running() {
-                return true;
-            }
-        }
-        false
+        self.counts.running > 0
     }
 
     /// Whether some process was stopped by a fault.
     pub(crate) fn some_faulted(&self) -> bool
         ensures { result ≡ list_any (λ seat. is_faulted seat.standing) self.now.items }
     {
-        for seat in &self.items {
-            if seat.standing.is_faulted() {
-                return true;
-            }
-        }
-        false
+        self.counts.faulted > 0
     }
 }
 
-fn is_ready<P>(seat: &Seat<P>) -> bool
-    ensures { result ≡ is_ready seat.now }
+// Puts the process at the end of those that are ready, where it is ready.
+fn list_where_ready<P>(ready: &mut VecDeque<usize>, at: usize, seat: &Seat<P>)
+    requires { length ready.old.items < deque_capacity ready.old }
+    ensures items { ready.new.items ≡ (if is_ready seat.now then ready.old.items ++ at ∷ [] else ready.old.items) }
+    ensures capacity { deque_capacity ready.new ≡ deque_capacity ready.old }
 {
-    match &seat.whereabouts {
-        Whereabouts::Ready { .. } => true,
-        _ => false,
+    if let Whereabouts::Ready { .. } = &seat.whereabouts {
+        ready.push_back_reserved(at);
+    }
+}
+
+// The process, which waits, goes on with this grant.
+fn go_on<P: Drop>(seat: &mut Seat<P>, grant: Grant)
+    ensures { seat.new ≡ woken seat.old grant }
+{
+    seat.standing = ProcessStanding::Running;
+    match mem::replace(&mut seat.whereabouts, Whereabouts::Out) {
+        Whereabouts::Waits { process } => {
+            seat.whereabouts = Whereabouts::Ready { process, grant };
+        }
+        other => {
+            seat.whereabouts = other;
+        }
     }
 }

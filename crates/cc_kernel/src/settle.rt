@@ -4,7 +4,8 @@ ghost use Rattle.std.specs.List.{enumerate_from};
 ghost use Rattle.cc_base.specs.Limits.{most_processes};
 ghost use Rattle.cc_kernel.specs.Choice.{after_end, seat_waits};
 ghost use Rattle.cc_kernel.specs.Store.{IsState, accepted_contents, chose_contents, contents, ended_contents};
-ghost use Rattle.cc_kernel.specs.Seats.{count_selecting, is_out, no_call, with_left};
+ghost use Rattle.cc_kernel.specs.Counted.{IsWaiting};
+ghost use Rattle.cc_kernel.specs.Seats.{count_selecting, is_out, no_call, seat_at, with_left};
 ghost use Rattle.cc_kernel.specs.Settles.{GoesOn, IsCalm, Settles, TakesOne};
 ghost use Rattle.cc_rules.specs.State.{State};
 ghost use Rattle.cc_rules.specs.declared.process.ProcessStanding.TheVariants.{Ended};
@@ -14,12 +15,13 @@ use crate::seats::Seats;
 use crate::served::served_call;
 use crate::store::Store;
 use cc_base::{Behave, CallId, Grant, Pid};
-use cc_rules::{Event, Journal, ProcessStanding, TransactionCall};
+use cc_rules::{Event, Journal, TransactionCall};
 
 // The target of the pending call at this index takes it by its alternative.
 fn accept<P: Drop>(store: &mut Store<P>, at: usize, alt: u32) -> (Pid, CallId)
     requires within { at < length store.old.pending.items }
     requires there { (get_or store.old.pending.items at no_call).target.0 < length store.old.seats.items }
+    requires waits { IsWaiting (seat_at store.old.seats.items (get_or store.old.pending.items at no_call).target.0).standing }
     requires room { 0 < store.old.served.spare }
     ensures contents { contents store.new ≡ accepted_contents (contents store.old) at alt }
     ensures target { result.0 ≡ (get_or store.old.pending.items at no_call).target }
@@ -39,7 +41,8 @@ fn accept<P: Drop>(store: &mut Store<P>, at: usize, alt: u32) -> (Pid, CallId)
 
 // The process takes its immediate alternative.
 fn choose<P: Drop>(store: &mut Store<P>, at: usize, alt: u32)
-    requires { at < length store.old.seats.items }
+    requires within { at < length store.old.seats.items }
+    requires waits { IsWaiting (seat_at store.old.seats.items at).standing }
     ensures contents { contents store.new ≡ chose_contents (contents store.old) at alt }
     ensures room { store.new.served.spare ≡ store.old.served.spare }
 {
@@ -109,7 +112,7 @@ fn end_where_waiting<B: Behave>(
     ensures { seats.new.items ≡ (if seat_waits (B.means code.now) seats.old.items calls.now at then set seats.old.items at (with_left Ended) else seats.old.items) }
 {
     if waits_at_terminate(code, seats, at, calls) {
-        seats.put_left(at, ProcessStanding::Ended);
+        seats.end(at);
     }
 }
 

@@ -174,15 +174,15 @@ fn asynchronous_calls_are_taken_by_their_ranks(rt: HostRuntime) {
     let wanted = [
         ask(0, Word::Create),
         ask(0, Word::Send),
+        ask(1, Word::Select),
         ask(0, Word::Send),
         ask(0, Word::Send),
         ask(0, Word::Call),
-        ask(1, Word::Select),
         accept(1, 0, 3),
         ask(1, Word::Reply),
-        ask(0, Word::Done),
         ask(1, Word::Select),
         accept(1, 0, 1),
+        ask(0, Word::Done),
         ask(1, Word::Select),
         accept(1, 0, 2),
         ask(1, Word::Select),
@@ -195,8 +195,8 @@ fn asynchronous_calls_are_taken_by_their_ranks(rt: HostRuntime) {
     assert!(rt; is_refused_without(alloc, &code, events, 0).expect(&rt, "memory"));
     assert!(rt; is_refused_swapped(alloc, &code, events, 5).expect(&rt, "memory"));
     assert!(rt; is_refused_with(alloc, &code, events, 6, accept(1, 1, 3)).expect(&rt, "memory"));
-    assert!(rt; is_refused_with(alloc, &code, events, 10, accept(1, 0, 2)).expect(&rt, "memory"));
-    assert!(rt; is_refused_ended(alloc, &code, events, 9).expect(&rt, "memory"));
+    assert!(rt; is_refused_with(alloc, &code, events, 9, accept(1, 0, 2)).expect(&rt, "memory"));
+    assert!(rt; is_refused_ended(alloc, &code, events, 8).expect(&rt, "memory"));
 }
 
 // The call is of another transaction than the one that is accepted.
@@ -210,13 +210,13 @@ fn a_call_that_cannot_be_taken_does_not_hold_up_the_end(rt: HostRuntime) {
     let wanted = [
         ask(0, Word::Create),
         ask(0, Word::Send),
-        ask(0, Word::Done),
         ask(1, Word::Select),
+        ask(0, Word::Done),
         Event::End,
     ];
     assert!(rt; events.as_slice() == wanted.as_slice());
     let events = events.as_slice();
-    assert!(rt; is_refused_without(alloc, &code, events, 2).expect(&rt, "memory"));
+    assert!(rt; is_refused_without(alloc, &code, events, 3).expect(&rt, "memory"));
     assert!(rt; is_refused_swapped(alloc, &code, events, 3).expect(&rt, "memory"));
     assert!(rt; is_refused_with(alloc, &code, events, 4, accept(1, 0, 0)).expect(&rt, "memory"));
     assert!(rt; is_refused_with(alloc, &code, events, 4, instant(1, 1)).expect(&rt, "memory"));
@@ -267,18 +267,18 @@ fn a_call_goes_before_an_immediate_alternative(rt: HostRuntime) {
     let wanted = [
         ask(0, Word::Create),
         ask(0, Word::Send),
-        ask(0, Word::Done),
         ask(1, Word::Select),
         accept(1, 0, 0),
+        ask(0, Word::Done),
         ask(1, Word::Print),
         ask(1, Word::Done),
     ];
     assert!(rt; events.as_slice() == wanted.as_slice());
     let events = events.as_slice();
     assert!(rt; is_taken(alloc, &code, events).expect(&rt, "memory"));
-    assert!(rt; is_refused_with(alloc, &code, events, 4, instant(1, 1)).expect(&rt, "memory"));
+    assert!(rt; is_refused_with(alloc, &code, events, 3, instant(1, 1)).expect(&rt, "memory"));
     let time = Event::Time { moment: 5 };
-    assert!(rt; is_refused_with(alloc, &code, events, 4, time).expect(&rt, "memory"));
+    assert!(rt; is_refused_with(alloc, &code, events, 3, time).expect(&rt, "memory"));
 }
 
 // It was called and ended, so that the caller goes on; then an asynchronous call of it is neither a fault nor kept.

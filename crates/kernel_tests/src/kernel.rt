@@ -1,4 +1,5 @@
-//! Runs of programs that follow a table, on the kernel and on a pool of one worker.
+//! Runs of programs that follow a table, on the kernel and on a pool of one worker. The process that has been ready for longest goes
+//! on first.
 ghost use Rattle.std.specs.Prelude.{◌≡◌};
 ghost use Rattle.cc_kernel.specs.Untimed.{AsksNoDeadline};
 
@@ -183,9 +184,9 @@ fn a_caller_and_a_server_meet_in_eight_turns(rt: HostRuntime) {
         accept(1, 0),
         ask(1, Word::Print),
         ask(1, Word::Reply),
+        ask(1, Word::Done),
         ask(0, Word::Print),
         ask(0, Word::Done),
-        ask(1, Word::Done),
     ];
     assert!(rt; has_events(&ran.journal, &events));
     assert!(rt; ran.standing == Standing::Ended { faulted: false });
@@ -222,20 +223,20 @@ fn the_innermost_call_is_answered(rt: HostRuntime) {
     let events = [
         ask(0, Word::Create),
         ask(0, Word::Create),
+        ask(1, Word::Select),
         ask(0, Word::Call),
-        ask(1, Word::Select),
         accept(1, 0),
-        ask(1, Word::Select),
         ask(2, Word::Call),
+        ask(1, Word::Select),
         accept(1, 1),
         ask(1, Word::Reply),
         ask(1, Word::Reply),
-        ask(0, Word::Done),
-        ask(1, Word::Done),
         ask(2, Word::Done),
+        ask(1, Word::Done),
+        ask(0, Word::Done),
     ];
     assert!(rt; has_events(&ran.journal, &events));
-    assert!(rt; has_cells(&ran.seen.given, &[5, 6, 2, 1]));
+    assert!(rt; has_cells(&ran.seen.given, &[5, 6, 1, 2]));
 }
 
 #[test]
@@ -250,8 +251,8 @@ fn a_call_of_what_is_not_there_is_a_fault(rt: HostRuntime) {
     let events = [
         ask(0, Word::Create),
         ask(0, Word::Create),
-        ask(0, Word::Done),
         ask(1, Word::Done),
+        ask(0, Word::Done),
         ask(2, Word::Call),
         ask(2, Word::Call),
         ask(2, Word::Fault),
@@ -276,8 +277,8 @@ fn whoever_waits_for_a_process_that_ends_goes_on(rt: HostRuntime) {
     let events = [
         ask(0, Word::Create),
         ask(0, Word::Create),
-        ask(0, Word::Call),
         ask(1, Word::Call),
+        ask(0, Word::Call),
         ask(2, Word::Select),
         accept(2, 0),
         ask(2, Word::Done),
@@ -289,15 +290,19 @@ fn whoever_waits_for_a_process_that_ends_goes_on(rt: HostRuntime) {
     assert!(rt; has_faults(&ran.faults, &[(Pid(0), gone), (Pid(1), gone)]));
 }
 
+// Three calls are pending when the server may take them; the one that was asked first has the greatest rank.
 #[test]
 fn the_call_of_least_rank_is_taken_the_earliest_on_a_tie(rt: HostRuntime) {
     let main = [
-        (Word::Create, 0, true, 0),
-        (Word::Create, 0, true, 0),
         (Word::Create, 0, false, 0),
-        (Word::Call, 3, true, 5),
+        (Word::Create, 0, true, 0),
+        (Word::Create, 0, true, 0),
+        (Word::Call, 1, true, 5),
     ];
     let server = [
+        (Word::Pause, 0, false, 0),
+        (Word::Pause, 0, false, 0),
+        (Word::Pause, 0, false, 0),
         (Word::Select, 0, true, 0),
         (Word::Reply, 0, false, 10),
         (Word::Select, 0, true, 0),
@@ -305,28 +310,33 @@ fn the_call_of_least_rank_is_taken_the_earliest_on_a_tie(rt: HostRuntime) {
         (Word::Select, 0, true, 0),
         (Word::Reply, 0, false, 30),
     ];
-    let caller = [(Word::Call, 3, true, 3)];
+    let caller = [(Word::Pause, 0, false, 0), (Word::Call, 1, true, 3)];
     let ran = run(rt.alloc(), &main, &server, &caller, 100).expect(&rt, "memory");
     let events = [
         ask(0, Word::Create),
         ask(0, Word::Create),
+        ask(1, Word::Pause),
         ask(0, Word::Create),
+        ask(2, Word::Pause),
+        ask(1, Word::Pause),
         ask(0, Word::Call),
-        ask(1, Word::Call),
+        ask(3, Word::Pause),
         ask(2, Word::Call),
-        ask(3, Word::Select),
-        accept(3, 1),
-        ask(3, Word::Reply),
-        ask(1, Word::Done),
-        ask(3, Word::Select),
-        accept(3, 2),
-        ask(3, Word::Reply),
+        ask(1, Word::Pause),
+        ask(3, Word::Call),
+        ask(1, Word::Select),
+        accept(1, 1),
+        ask(1, Word::Reply),
+        ask(1, Word::Select),
+        accept(1, 2),
         ask(2, Word::Done),
-        ask(3, Word::Select),
-        accept(3, 0),
-        ask(3, Word::Reply),
-        ask(0, Word::Done),
+        ask(1, Word::Reply),
+        ask(1, Word::Select),
+        accept(1, 0),
         ask(3, Word::Done),
+        ask(1, Word::Reply),
+        ask(1, Word::Done),
+        ask(0, Word::Done),
     ];
     assert!(rt; has_events(&ran.journal, &events));
     assert!(rt; has_cells(&ran.seen.given, &[3, 10, 3, 20, 5, 30]));

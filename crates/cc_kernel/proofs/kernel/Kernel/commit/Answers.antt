@@ -3,7 +3,7 @@ use Rattle.std.proofs.lemmas.List.Sums.{count_by-le-length}
 use Rattle.cc_kernel.proofs.Keeping.{all-served, kept-commit}
 use Rattle.cc_kernel.proofs.Known.{known-served}
 use Rattle.cc_kernel.proofs.Others.{others-stay, outs-run, prints-more, steps-on}
-use Rattle.cc_kernel.proofs.Outs.{out-at}
+use Rattle.cc_kernel.proofs.Outs.{out-at, out-not-ready}
 use Rattle.cc_kernel.proofs.Seated.{Seated-at, out-running}
 use Rattle.cc_kernel.proofs.Stands.{below-allowed, going-left}
 use Rattle.cc_kernel.specs.Store.{contents}
@@ -28,6 +28,11 @@ perform-bytes-requires-clause-known g c =
     (state_after (g.B.Behave.means k.code.value) k.store.input k.journal.items) (contents k.store) c.self.invariant.state
     (known-served (g.B.Behave.means k.code.value)
     (g.met.B.Behave.well_formed k.code.value) k.store.input k.journal.items c.self.invariant.runs))
+
+pub perform-bytes-requires-clause-idle : goal.perform-bytes-requires-clause-idle
+perform-bytes-requires-clause-idle g c =
+    let out = rw (← c.self.view_is) at c.requires.out in
+    out-not-ready c.self.inside.store.seats.items c.args.pid.0 out.0
 
 -- what is kept is the state after what is asked
 pub settle-requires-clause-few : goal.settle-requires-clause-few

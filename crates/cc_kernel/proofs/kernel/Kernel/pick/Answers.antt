@@ -18,19 +18,19 @@ returns-in_default-clause-none g c =
     (inl
     (all-out (g.B.Behave.at k.code.value)
     (state_after (g.B.Behave.means k.code.value) k.store.input k.journal.items).processes
-    k.store.seats.items c.self.invariant.state.seated c.in_default.ensures))
+    k.store.seats.items c.self.invariant.state.seated c.in_default.ensures.whereabouts.1))
 
-pub invariant_of-self : goal.invariant_of-self
-invariant_of-self g c =
+pub invariant_of-self-2 : goal.invariant_of-self-2
+invariant_of-self-2 g c =
     let k = c.self.inside in
     kept-out (g.B.Behave.means k.code.value) (g.B.Behave.at k.code.value)
-    k.turns k.spent k.journal.items k.journal.spare k.store k.need k.faults c.take.new.self
-    c.in-Some.at c.in-Some-take.process c.in-Some-take.grant
+    k.turns k.spent k.journal.items k.journal.spare k.store k.need k.faults c.take_first.new.self
+    c.in-Some.at c.in-Some.process c.in-Some.grant
     c.self.invariant
-    c.in-Some.ensures.0
-    c.in-Some-take.ensures.whereabouts.0
-    c.in-Some-take.ensures.whereabouts.1
-    c.in-Some-take.ensures.spare
+    c.in-Some.ensures.whereabouts.0
+    c.in-Some.ensures.whereabouts.1
+    c.in-Some.ensures.whereabouts.2
+    c.in-Some.ensures.spare
 
 pub returns-clause-going : goal.returns-clause-going
 returns-clause-going g c =
@@ -41,36 +41,36 @@ returns-clause-going g c =
     c.self.invariant.state c.self.invariant.quiet
     (other-count k.spent k.turns (turns k.journal.items) c.self.invariant.spent_turns c.if-self.false)
     (kept-ready (g.B.Behave.means k.code.value) (g.B.Behave.at k.code.value)
-    k.store.input k.journal.items k.store.seats.items c.in-Some.at c.in-Some-take.process c.in-Some-take.grant
+    k.store.input k.journal.items k.store.seats.items c.in-Some.at c.in-Some.process c.in-Some.grant
     c.self.invariant.state.seated
-    c.in-Some.ensures.0
-    c.in-Some-take.ensures.whereabouts.0).0)
+    c.in-Some.ensures.whereabouts.0
+    c.in-Some.ensures.whereabouts.1).0)
 
 pub returns-clause-ready : goal.returns-clause-ready
 returns-clause-ready g c =
     let k = c.self.inside in
     rw (← c.self.view_is)
     (ready-next (g.B.Behave.means k.code.value) (g.met.B.Behave.well_formed k.code.value) k.store.input k.journal.items c.self.invariant.runs
-    (g.B.Behave.at k.code.value) c.in-Some.at c.in-Some-take.process c.in-Some-take.grant
+    (g.B.Behave.at k.code.value) c.in-Some.at c.in-Some.process c.in-Some.grant
     (kept-ready (g.B.Behave.means k.code.value) (g.B.Behave.at k.code.value)
-    k.store.input k.journal.items k.store.seats.items c.in-Some.at c.in-Some-take.process c.in-Some-take.grant
+    k.store.input k.journal.items k.store.seats.items c.in-Some.at c.in-Some.process c.in-Some.grant
     c.self.invariant.state.seated
-    c.in-Some.ensures.0
-    c.in-Some-take.ensures.whereabouts.0))
+    c.in-Some.ensures.whereabouts.0
+    c.in-Some.ensures.whereabouts.1))
 
 pub returns-clause-was_in : goal.returns-clause-was_in
 returns-clause-was_in g c =
     rw (← c.self.view_is)
-    (in-at c.self.inside.store.seats.items c.in-Some.at false c.in-Some.ensures.0 (ap whereabouts_out c.in-Some-take.ensures.whereabouts.0))
+    (in-at c.self.inside.store.seats.items c.in-Some.at false c.in-Some.ensures.whereabouts.0 (ap whereabouts_out c.in-Some.ensures.whereabouts.1))
 
 pub returns-clause-out : goal.returns-clause-out
 returns-clause-out g c =
     let k = c.self.inside in
-    rw (c.in-Some-take.ensures.whereabouts.1, ← c.self.view_is)
+    rw (c.in-Some.ensures.whereabouts.2, ← c.self.view_is)
     (ap (λ xs. record { code = k.code.value; input = k.store.input; turns = k.turns; journal = k.journal.items; outs = xs; prepared = prepared_for k.need })
     (map-set is_out k.store.seats.items c.in-Some.at (with_out (seat_at k.store.seats.items c.in-Some.at))))
 
 pub returns-clause-is_out : goal.returns-clause-is_out
 returns-clause-is_out g c =
-    rw c.in-Some-take.ensures.whereabouts.1
-    (out-set c.self.inside.store.seats.items c.in-Some.at (with_out (seat_at c.self.inside.store.seats.items c.in-Some.at)) c.in-Some.ensures.0 refl)
+    rw c.in-Some.ensures.whereabouts.2
+    (out-set c.self.inside.store.seats.items c.in-Some.at (with_out (seat_at c.self.inside.store.seats.items c.in-Some.at)) c.in-Some.ensures.whereabouts.0 refl)
