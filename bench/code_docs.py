@@ -1,6 +1,6 @@
 #!/usr/bin/env python3
-"""Compares docs/CODE.md with the instructions: their names and operands, in order, with crates/cc_code/src/instr.rt and with the
-lines of the listing that crates/code_tests expects. Prints what differs, and ends with status 1 if anything does.
+"""Compares docs/CODE.md with the instructions: their names and how many operands each has, with crates/cc_code/src/instr.rt, in
+order, and with the lines of the listing that crates/code_tests expects. Prints what differs, and ends with status 1 if anything does.
 
     bench/code_docs.py
 """
@@ -13,7 +13,7 @@ ROOT = pathlib.Path(__file__).resolve().parent.parent
 
 
 def documented():
-    """The number of operands of each instruction that the page names, in its order."""
+    """The number of operands of each instruction that the page names, in its order. Each of several forms in one row has its own."""
     operands = {}
     for line in (ROOT / "docs" / "CODE.md").read_text().splitlines():
         if not line.startswith("| ") or line.startswith("| instruction") or line.startswith("| number"):
@@ -22,7 +22,6 @@ def documented():
             words = form.split()
             if words and words[0][0].isupper():
                 operands[words[0]] = len(words) - 1
-    # an operand that the last of several forms names stands for each: "Add t, Sub t" has its own, "Lt, Le" has none
     return operands
 
 

@@ -24,7 +24,7 @@ use Rattle.cc_code.proofs.Lists.{in-map}
 use Rattle.cc_code.proofs.Marked.{itself}
 use Rattle.cc_code.specs.Control.{successors}
 use Rattle.cc_code.specs.Operands.{format_at, gives, shape_at, takes}
-use Rattle.cc_code.specs.Standing.{IsFit}
+use Rattle.cc_code.specs.Standing.{IsAnsweredInFull}
 use Rattle.cc_code.specs.Works.{Store, Next, at_offset, bumped, bumped_in, bumped_to, element, element_cells, entry_of, fetched, fetched_in, first, further, go_to, in_time, index_fault, is_within, offered, offered_accept, op, picked, second, selected, stored, table_at, taken_at, taken_by, taken_in, works}
 use Rattle.cc_code.specs.declared.code.RawCode.{RawCode}
 use Rattle.cc_code.specs.declared.code.TableEntry.{TableEntry}
@@ -206,7 +206,7 @@ module _ (k : RawCode) (at : ℕ) (s : Store) (l : Left) where
       go false f = tt
 
   -- each instruction but a call and the ends of parts
-  pub works-led : (i : Instr) (vs : List ℤ) → length vs ≡ takes k i → IsFit k i l.grants → IsWorked i → Led k at i (works k (at + 1) i vs s l)
+  pub works-led : (i : Instr) (vs : List ℤ) → length vs ≡ takes k i → IsAnsweredInFull k i l.grants → IsWorked i → Led k at i (works k (at + 1) i vs s l)
   works-led (instr.Const v) vs e fit w = (next, refl)
   works-led (instr.Zeros m) vs e fit w = (next, length-replicate m (pos 0))
   works-led (instr.Drop m) vs e fit w = (next, refl)

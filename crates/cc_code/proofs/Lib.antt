@@ -4,11 +4,13 @@ pub mod Holds
 pub mod Judging
 pub mod Leading
 pub mod Lists
+pub mod Local
 pub mod Marked
 pub mod Meets
 pub mod Naming
 pub mod Noting
 pub mod Paths
+pub mod Proper
 pub mod Standing
 pub mod Total
 pub mod Waiting

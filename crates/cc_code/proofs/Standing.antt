@@ -1,27 +1,30 @@
 -- Verified code never lacks an instruction or an operand.
-use Rattle.std.proofs.Common.{◌≡◌, ℕ, ℤ, zero, suc, ◌+◌, ◌-◌, ◌<◌, ◌≤◌, inl, inr, Bool, true, false, List, [], ◌∷◌, ◌++◌, length, drop, take, get_or, slice_get, Option, Some, None, Contains, refl, sym, ◌∙◌, ap, subst, arith, add-one}
-use Rattle.std.specs.Prelude.{◌||◌, nat_le, nat_lt, if◌then◌else◌}
+use Rattle.std.proofs.Common.{◌≡◌, ℕ, ℤ, zero, suc, ◌+◌, ◌-◌, ◌<◌, ◌≤◌, inl, inr, Bool, true, false, List, [], ◌∷◌, ◌++◌, length, drop, take, get_or, slice_get, Option, Some, None, Contains, refl, sym, ◌∙◌, ap, subst, arith}
+use Rattle.std.specs.Prelude.{nat_le, nat_lt, if◌then◌else◌}
 use Rattle.std.proofs.lemmas.Bool.{cases_lt}
 use Rattle.std.proofs.lemmas.Bool.Decides.{nat_tests}
 use Rattle.std.proofs.lemmas.Grind.{common_steps}
 use Rattle.std.proofs.lemmas.List.Elements.{Contains-append_left, Contains-append_right, Contains-append_cases}
 use Rattle.std.proofs.lemmas.Option.{get_or_from_slice_get, slice_get-get_or, slice_get_cases}
 use Rattle.cc_base.specs.Limits.{most_calls, most_cells, most_steps}
-use Rattle.cc_base.specs.Outcome.{Left, Outcome, Through, Asked}
+use Rattle.cc_base.specs.Outcome.{Left, Outcome, Through, Asked, Eval}
 use Rattle.cc_base.specs.declared.names.FaultKind.TheVariants.{Depth}
+use Rattle.cc_base.specs.declared.request.Grant.{Grant}
 use Rattle.cc_base.specs.declared.request.Grant.TheVariants.{Value}
+use Rattle.cc_base.specs.declared.request.Request.{Request}
 use Rattle.cc_base.specs.declared.request.Request.TheVariants.{Fault}
 use Rattle.cc_code.specs.Meaning.{begins, nothing_left}
 use Rattle.cc_code.proofs.Leading.{IsWorked, Lands, Led, works-led}
 use Rattle.cc_code.proofs.Lists.{in-map, member}
 use Rattle.cc_code.proofs.Marked.{itself, nothing, only}
-use Rattle.cc_code.proofs.Total.{Lower, less, works-lower}
+use Rattle.cc_code.proofs.Local.{Quiet, fails, passes, left_of, works-local}
+use Rattle.cc_code.proofs.Total.{Down, spends-lighter, step-down, step-spends}
 use Rattle.cc_code.proofs.Waiting.{member-holds}
-use Rattle.cc_code.specs.Control.{start, onward, GoesTo, InPart, addresses, entries, fragments, fragments_of, successors, successors_if}
+use Rattle.cc_code.specs.Control.{start, onward, GoesTo, InFunction, InPart, addresses, entries, fragments, fragments_of, successors, successors_if}
 use Rattle.cc_code.specs.Operands.{function_at, gives, no_part, takes}
-use Rattle.cc_code.specs.Rules.{GivesHeights, HasEntries, HasHeight, HasTargets, IfThere, IsAddress, IsFinal, IsVerified, KeepsAt, KeepsHeights, NamesKind, NamesSite, all_entries, height_at, rest_at}
-use Rattle.cc_code.specs.Standing.{AreFit, FitAfter, GoBack, IsFit, NeverStrays, NextIsFit, Spends, Stands, StandsAfter}
-use Rattle.cc_code.specs.Steps.{Frame, State, Stepped, Goes, Stops, Asks, Yields, Strays, after, and_on, called, called_if, called_with, cells_at_start, cells_below, enough, goes_on, performed, popped, popped_if, renews, returned_to, run, step, stepped, weight, worked, worked_on}
+use Rattle.cc_code.specs.Rules.{GivesHeights, HasEntries, HasHeight, HasTargets, IfThere, IsAddress, IsFinal, IsPure, IsVerified, KeepsAt, KeepsHeights, NamesKind, NamesSite, all_entries, height_at, rest_at}
+use Rattle.cc_code.specs.Standing.{AreAnsweredInFull, Afterwards, Ends, GoBack, IsAnsweredInFull, IsFault, IsWithin, NeverStrays, NextIsAnsweredInFull, Runs, Kind, Fragment, Spends, Stands, StandsAfter}
+use Rattle.cc_code.specs.Steps.{Frame, State, Ran, Stepped, Goes, Stops, Asks, Yields, Strays, after, and_on, called, called_if, called_with, cells_below, enough, goes_on, performed, popped, popped_if, renews, returned_to, run, step, stepped, weight, within_bound, worked, worked_on}
 use Rattle.cc_code.specs.Works.{Next, Store, first, table_at, works}
 use Rattle.cc_code.specs.declared.code.Part.{Part}
 use Rattle.cc_code.specs.declared.code.RawCode.{RawCode}
@@ -35,11 +38,38 @@ enough-there : (a b : ℕ) → a ≤ b → nat_le a b ≡ true
 enough-there a b h = grind (arith, nat_tests)
 
 -- where the operands are there, what was taken has their number, and the rest is below
-popped-there : (k : RawCode) (n : ℕ) (stack : List ℤ) (go : List ℤ → List ℤ → Stepped) → n ≤ length stack
-    → ((vs below : List ℤ) → length vs ≡ n → length below ≡ length stack - n → StandsAfter k (go vs below)) → StandsAfter k (popped n stack go)
+popped-there : (k : RawCode) (r : Runs) (n : ℕ) (stack : List ℤ) (go : List ℤ → List ℤ → Stepped) → n ≤ length stack
+    → ((vs below : List ℤ) → length vs ≡ n → length below ≡ length stack - n → StandsAfter k r (go vs below)) → StandsAfter k r (popped n stack go)
 unfolding popped
-popped-there k n stack go b h = subst (λ (t : Bool). StandsAfter k (popped_if t n stack go)) (sym (enough-there n (length stack) b))
+popped-there k r n stack go b h = subst (λ (t : Bool). StandsAfter k r (popped_if t n stack go)) (sym (enough-there n (length stack) b))
     (h (drop (length stack - n) stack) (take (length stack - n) stack) (grind (arith, common_steps)) (grind (arith, common_steps)))
+
+-- where it is no value, it is a fault, if a fragment runs
+abbrev pub Faults : {A : Type 0} → Runs → Outcome Store A → Type 0
+Faults Kind o = Unit {0}
+Faults Fragment (Through v s l) = Unit {0}
+Faults Fragment (Asked q) = IsFault q
+
+abbrev asked : Request → Outcome Store Next
+asked q = Asked q
+
+quiet-faults : {A : Type 0} (t a : ℕ) (p : Eval Store A) (s : Store) (gs : List Grant) → Quiet t a p s → Faults Fragment (p s (left_of gs t))
+quiet-faults t a p s gs (fails kind e) = subst (Faults Fragment) (sym (e gs)) tt
+quiet-faults t a p s gs (passes v u e) = subst (Faults Fragment) (sym (e gs)) tt
+
+pure-faults : (k : RawCode) (n at : ℕ) (i : Instr) (vs : List ℤ) (s : Store) (l : Left) → IsPure at i → Faults Fragment (works k n i vs s l)
+pure-faults k n at instr.Tick vs s l h = absurd h
+pure-faults k n at (instr.Create kind) vs s l h = absurd h
+pure-faults k n at (instr.Ask t) vs s l h = absurd h
+pure-faults k n at (instr.AskWithin t a) vs s l h = absurd h
+pure-faults k n at (instr.Send t) vs s l h = absurd h
+pure-faults k n at (instr.SelWait j) vs s l h = absurd h
+pure-faults k n at instr.Wait vs s l h = absurd h
+pure-faults k n at (instr.Reply m) vs s l h = absurd h
+pure-faults k n at instr.PutByte vs s l h = absurd h
+pure-faults k n at instr.GetByte vs s l h = absurd h
+pure-faults k n at (instr.Format f) vs s l h = absurd h
+pure-faults k n at i vs s l h = quiet-faults l.ticks l.ticks (works k n i vs) s l.grants (works-local k n i vs l.ticks s)
 
 module _ (k : RawCode) (verified : IsVerified k) where
   kept : (at : ℕ) (i : Instr) (r : Rule) → slice_get k.instrs at ≡ Some i → KeepsAt k at i r
@@ -92,8 +122,17 @@ module _ (k : RawCode) (verified : IsVerified k) where
 
   -- within the part that runs
   go-on : (at y : ℕ) (frames : List Frame) → GoesTo k at y → GoBack k at frames → GoBack k y frames
-  go-on at y [] g h = elim h [ inl r ↦ inl (onward r g) | inr r ↦ inr (onward r g) ]
+  go-on at y [] g h = onward h g
   go-on at y (f ∷ frames) g h = (h.0, h.1, h.2, onward h.3 g, h.4, h.5, h.6)
+
+  within-on : (r : Runs) (at y : ℕ) (frames : List Frame) → GoesTo k at y → IsWithin k r at frames → IsWithin k r y frames
+  within-on Kind at y frames g h = go-on at y frames g h
+  within-on Fragment at y frames g h = (onward h.0 g, h.1)
+
+  -- what a function reaches is in a function
+  in-function : (n : ℕ) (p : Part) → slice_get k.functions n ≡ Some p → (at : ℕ) → InPart k p.entry at → InFunction k at
+  in-function n p e at (start c) = start (subst (λ (x : ℕ). Contains (entries k.functions) x) (only p.entry at c) (in-map (λ (q : Part). q.entry) k.functions p (member k.functions n p e)))
+  in-function n p e at (onward r g) = onward (in-function n p e _ r) g
 
   there : (at : ℕ) → IsAddress k at → (i : Instr) × (slice_get k.instrs at ≡ Some i)
   there at b = elim ((slice_get_cases k.instrs at).1) [ inl h ↦ (h.0, h.2) | inr h ↦ absurd (omega (arith, h.0)) ]
@@ -101,32 +140,36 @@ module _ (k : RawCode) (verified : IsVerified k) where
   entry-low : (at : ℕ) → IsAddress k at → Contains (all_entries k) at → height_at k at ≡ 0
   entry-low at b c = let i : (i : Instr) × (slice_get k.instrs at ≡ Some i) = there at b in (heights-kept at i.0 i.1).entry c
 
-  module _ (s : State) (stands : Stands k s) (i : Instr) (here : slice_get k.instrs s.address ≡ Some i) where
+  module _ (r : Runs) (s : State) (stands : Stands k r s) (i : Instr) (here : slice_get k.instrs s.address ≡ Some i) where
     below-length : (n : ℕ) (below : List ℤ) → length below ≡ length s.stack - n → length below ≡ height_at k s.address - n
     below-length n below e = e ∙ ap (λ (m : ℕ). m - n) stands.height
 
     enough-on : takes k i ≤ length s.stack
     enough-on = (let h : takes k i ≤ height_at k s.address = (heights-kept s.address i here).takes in omega (arith, stands.height))
 
-    after-stands : (b : Bool) (below : List ℤ) (o : Outcome Store Next) → length below ≡ rest_at k s.address i → Led k s.address i o → StandsAfter k (after b s below o)
-    after-stands b below (Asked q) e h = tt
-    after-stands b below (Through n store left) e h =
+    after-stands : (b : Bool) (below : List ℤ) (o : Outcome Store Next) → length below ≡ rest_at k s.address i → Led k s.address i o → Faults r o → StandsAfter k r (after b s below o)
+    after-stands b below (Asked q) e h f = ended r f
+      where
+        ended : (r : Runs) → Faults r (asked q) → Ends r (Asks q)
+        ended Kind f = tt
+        ended Fragment f = f
+    after-stands b below (Through n store left) e h f =
         let c : Contains (successors k s.address i) n.address = landed-in s.address i n h in
         let a : IsAddress k n.address = successor s.address i n.address (kept s.address i rule.Target here) (kept s.address i rule.Fall here) stands.address c in
         let t : height_at k n.address ≡ rest_at k s.address i + length n.given = landed-height s.address i n (heights-kept s.address i here).gives h a in
         record {
           address = a;
           height = (let j : length (below ++ n.given) ≡ length below + length n.given = grind (arith, common_steps) in omega (arith, e, t, j));
-          part = go-on s.address n.address s.frames (goes-to s.address n.address i here c) stands.part;
+          part = within-on r s.address n.address s.frames (goes-to s.address n.address i here c) stands.part;
         }
 
-    worked-stands : IsWorked i → IsFit k i s.left.grants → StandsAfter k (worked k i s)
-    worked-stands w fit = popped-there k (takes k i) s.stack (worked_on k i s) enough-on (λ vs below e f.
-        after-stands (renews i) below (works k (s.address + 1) i vs s.store s.left) (below-length (takes k i) below f) (works-led k s.address s.store s.left i vs e fit w))
+    worked-stands : IsWorked i → IsAnsweredInFull k i s.left.grants → ((vs : List ℤ) → Faults r (works k (s.address + 1) i vs s.store s.left)) → StandsAfter k r (worked k i s)
+    worked-stands w fit f = popped-there k r (takes k i) s.stack (worked_on k i s) enough-on (λ vs below e d.
+        after-stands (renews i) below (works k (s.address + 1) i vs s.store s.left) (below-length (takes k i) below d) (works-led k s.address s.store s.left i vs e fit w) (f vs))
 
-  module _ (s : State) (stands : Stands k s) where
+  module _ (s : State) (stands : Stands k Kind s) where
     -- a function begins
-    begun-stands : (f : ℕ) (p : Part) (args below : List ℤ) → slice_get k.instrs s.address ≡ Some (instr.Call f) → slice_get k.functions f ≡ Some p → length below ≡ length s.stack - p.args → StandsAfter k (called_with p s args below)
+    begun-stands : (f : ℕ) (p : Part) (args below : List ℤ) → slice_get k.instrs s.address ≡ Some (instr.Call f) → slice_get k.functions f ≡ Some p → length below ≡ length s.stack - p.args → StandsAfter k Kind (called_with p s args below)
     begun-stands f p args below here e l =
         let i : Instr = instr.Call f in
         let is : function_at k f ≡ p = get_or_from_slice_get k.functions f p no_part e in
@@ -143,7 +186,7 @@ module _ (k : RawCode) (verified : IsVerified k) where
           part = (f, p, e, start (itself p.entry), next, omega (arith, given, l, stands.height, args-of, value-of), go-on s.address (s.address + 1) s.frames (goes-to s.address (s.address + 1) i here back) stands.part);
         }
 
-    called-stands : (f : ℕ) → slice_get k.instrs s.address ≡ Some (instr.Call f) → StandsAfter k (called (slice_get k.functions f) s)
+    called-stands : (f : ℕ) → slice_get k.instrs s.address ≡ Some (instr.Call f) → StandsAfter k Kind (called (slice_get k.functions f) s)
     called-stands f here = by (slice_get k.functions f) refl
       where
         known : f < length k.functions
@@ -156,23 +199,20 @@ module _ (k : RawCode) (verified : IsVerified k) where
             let h : (function_at k f).args ≤ height_at k s.address = (heights-kept s.address (instr.Call f) here).takes in
             omega (arith, h, args-of, stands.height)
 
-        tested : (p : Part) → slice_get k.functions f ≡ Some p → (a b c : Bool) → StandsAfter k (called_if a b c p s)
-        tested p e false b c = tt
-        tested p e true true c = tt
-        tested p e true false true = tt
-        tested p e true false false = popped-there k p.args s.stack (called_with p s) (enough p e) (λ vs below m l. begun-stands f p vs below here e l)
+        tested : (p : Part) → slice_get k.functions f ≡ Some p → (a b c : Bool) → StandsAfter k Kind (called_if a b c p s)
+        tested p e true b c = tt
+        tested p e false true c = tt
+        tested p e false false true = tt
+        tested p e false false false = popped-there k Kind p.args s.stack (called_with p s) (enough p e) (λ vs below m l. begun-stands f p vs below here e l)
 
-        by : (o : Option Part) → slice_get k.functions f ≡ o → StandsAfter k (called o s)
+        by : (o : Option Part) → slice_get k.functions f ≡ o → StandsAfter k Kind (called o s)
         by None e = absurd (let h : slice_get k.functions f ≡ Some (get_or k.functions f no_part) = slice_get-get_or k.functions f no_part known in
             let g : None ≡ Some (get_or k.functions f no_part) = sym e ∙ h in cc)
-        by (Some p) e = tested p e (nat_lt (length s.frames) most_calls) (nat_lt most_cells (length s.store.cells + cells_below s.frames + p.cells)) (nat_lt p.cells p.args)
+        by (Some p) e = tested p e (nat_le most_calls (length s.frames)) (nat_lt most_cells (length s.store.cells + cells_below s.frames + p.cells)) (nat_lt p.cells p.args)
 
     -- a function ends
-    returned-stands : (n : ℕ) (vs : List ℤ) (frames : List Frame) → slice_get k.instrs s.address ≡ Some (instr.Ret n) → length vs ≡ n → GoBack k s.address frames → StandsAfter k (returned_to frames s vs)
-    returned-stands n vs [] here l g = absurd (elim g [
-      | inl r ↦ (kept s.address (instr.Ret n) rule.Reach here).ret tt r
-      | inr r ↦ (kept s.address (instr.Ret n) rule.Pure here r).0
-    ])
+    returned-stands : (n : ℕ) (vs : List ℤ) (frames : List Frame) → slice_get k.instrs s.address ≡ Some (instr.Ret n) → length vs ≡ n → GoBack k s.address frames → StandsAfter k Kind (returned_to frames s vs)
+    returned-stands n vs [] here l g = absurd ((kept s.address (instr.Ret n) rule.Reach here).ret tt g)
     returned-stands n vs (f ∷ frames) here l g =
         let own : (height_at k s.address ≡ n) × ((m : ℕ) (p : Part) → slice_get k.functions m ≡ Some p → InPart k p.entry s.address → p.value ≡ n) = (heights-kept s.address (instr.Ret n) here).own in
         let value : g.1.value ≡ n = own.1 g.0 g.1 g.2 g.3 in
@@ -182,32 +222,58 @@ module _ (k : RawCode) (verified : IsVerified k) where
           part = g.6;
         }
 
-    ret-stands : (n : ℕ) → slice_get k.instrs s.address ≡ Some (instr.Ret n) → StandsAfter k (popped n s.stack (λ vs below. returned_to s.frames s vs))
+    ret-stands : (n : ℕ) → slice_get k.instrs s.address ≡ Some (instr.Ret n) → StandsAfter k Kind (popped n s.stack (λ vs below. returned_to s.frames s vs))
     ret-stands n here =
         let h : n ≤ height_at k s.address = (heights-kept s.address (instr.Ret n) here).takes in
-        popped-there k n s.stack (λ vs below. returned_to s.frames s vs) (omega (arith, h, stands.height)) (λ vs below m l. returned-stands n vs s.frames here m stands.part)
+        popped-there k Kind n s.stack (λ vs below. returned_to s.frames s vs) (omega (arith, h, stands.height)) (λ vs below m l. returned-stands n vs s.frames here m stands.part)
 
-    yield-stands : slice_get k.instrs s.address ≡ Some instr.Yield → StandsAfter k (popped 1 s.stack (λ vs below. Stops (Yields (first vs))))
+    -- no fragment ends there
+    no-yield : (frames : List Frame) → slice_get k.instrs s.address ≡ Some instr.Yield → GoBack k s.address frames → ⊥
+    no-yield [] here g = (kept s.address instr.Yield rule.Reach here).yield_in_kind tt g
+    no-yield (f ∷ frames) here g = (kept s.address instr.Yield rule.Reach here).yield_in_function tt (in-function g.0 g.1 g.2 s.address g.3)
+
+    performed-in-kind : (i : Instr) → slice_get k.instrs s.address ≡ Some i → IsAnsweredInFull k i s.left.grants → StandsAfter k Kind (performed k i s)
+    performed-in-kind (instr.Call f) here fit = called-stands f here
+    performed-in-kind (instr.Ret n) here fit = ret-stands n here
+    performed-in-kind instr.Yield here fit = absurd (no-yield s.frames here stands.part)
+    performed-in-kind instr.End here fit = tt
+    performed-in-kind i here fit = worked-stands Kind s stands i here tt fit (λ vs. tt)
+
+  module _ (s : State) (stands : Stands k Fragment s) where
+    pure-here : (i : Instr) → slice_get k.instrs s.address ≡ Some i → IsPure s.address i
+    pure-here i here = (kept s.address i rule.Pure here stands.part.0).0
+
+    yield-stands : slice_get k.instrs s.address ≡ Some instr.Yield → StandsAfter k Fragment (popped 1 s.stack (λ vs below. Stops (Yields (first vs))))
     yield-stands here =
         let h : 1 ≤ height_at k s.address = (heights-kept s.address instr.Yield here).takes in
-        popped-there k 1 s.stack (λ vs below. Stops (Yields (first vs))) (omega (arith, h, stands.height)) (λ vs below m l. tt)
+        popped-there k Fragment 1 s.stack (λ vs below. Stops (Yields (first vs))) (omega (arith, h, stands.height)) (λ vs below m l. tt)
 
-    performed-stands : (i : Instr) → slice_get k.instrs s.address ≡ Some i → IsFit k i s.left.grants → StandsAfter k (performed k i s)
-    performed-stands (instr.Call f) here fit = called-stands f here
-    performed-stands (instr.Ret n) here fit = ret-stands n here
-    performed-stands instr.Yield here fit = yield-stands here
-    performed-stands instr.End here fit = tt
-    performed-stands i here fit = worked-stands s stands i here tt fit
+    performed-in-fragment : (i : Instr) → slice_get k.instrs s.address ≡ Some i → IsAnsweredInFull k i s.left.grants → StandsAfter k Fragment (performed k i s)
+    performed-in-fragment (instr.Call f) here fit = absurd (pure-here (instr.Call f) here)
+    performed-in-fragment (instr.Ret n) here fit = absurd (pure-here (instr.Ret n) here)
+    performed-in-fragment instr.Yield here fit = yield-stands here
+    performed-in-fragment instr.End here fit = absurd (pure-here instr.End here)
+    performed-in-fragment i here fit = worked-stands Fragment s stands i here tt fit (λ vs. pure-faults k (s.address + 1) s.address i vs s.store s.left (pure-here i here))
+
+  performed-stands : (r : Runs) (s : State) → Stands k r s → (i : Instr) → slice_get k.instrs s.address ≡ Some i → IsAnsweredInFull k i s.left.grants → StandsAfter k r (performed k i s)
+  performed-stands Kind s stands i here fit = performed-in-kind s stands i here fit
+  performed-stands Fragment s stands i here fit = performed-in-fragment s stands i here fit
+
+  -- the bound is a fault, whatever runs
+  bounded-stands : (r : Runs) (t : Stepped) → StandsAfter k r t → StandsAfter k r (within_bound t)
+  bounded-stands r (Goes t) h = by r (nat_le t.count most_steps) h
+    where
+      by : (r : Runs) (b : Bool) → Stands k r t → StandsAfter k r (if b then Goes t else Stops (Asks (Fault Depth)))
+      by r true h = h
+      by Kind false h = tt
+      by Fragment false h = tt
+  bounded-stands r (Stops x) h = h
 
   -- one instruction
-  pub step-stands : (s : State) → Stands k s → NextIsFit k s → StandsAfter k (step k s)
-  step-stands s stands fit =
+  pub step-stands : (r : Runs) (s : State) → Stands k r s → NextIsAnsweredInFull k s → StandsAfter k r (step k s)
+  step-stands r s stands fit =
       let i : (i : Instr) × (slice_get k.instrs s.address ≡ Some i) = there s.address stands.address in
-      subst (λ (o : Option Instr). StandsAfter k (stepped k o s)) (sym i.1) (by i.0 i.1 (renews i.0 || nat_lt s.count most_steps))
-    where
-      by : (i : Instr) → slice_get k.instrs s.address ≡ Some i → (b : Bool) → StandsAfter k (if b then performed k i s else Stops (Asks (Fault Depth)))
-      by i here true = performed-stands s stands i here (fit i here)
-      by i here false = tt
+      subst (λ (o : Option Instr). StandsAfter k r (stepped k o s)) (sym i.1) (bounded-stands r (performed k i.0 s) (performed-stands r s stands i.0 i.1 (fit i.0 i.1)))
 
   -- the entries of kinds and fragments are addresses: where an instruction names them, and where none does
   pub kind-entry : (n : ℕ) (p : Part) → slice_get k.kinds n ≡ Some p → IsAddress k p.entry
@@ -223,14 +289,14 @@ module _ (k : RawCode) (verified : IsVerified k) where
       by-name at (instr.Create m) here names = subst (λ (o : Option Part). IfThere o (λ (q : Part). IsAddress k q.entry)) e (subst (λ (v : ℕ). HasTargets k (instr.Create v)) (sym names) (kept at (instr.Create m) rule.Target here))
       by-name at i here names = absurd names
 
-  pub kind-stands : (n : ℕ) (p : Part) (cells : List ℤ) (left : Left) → slice_get k.kinds n ≡ Some p → Stands k (begins p.entry cells left)
+  pub kind-stands : (n : ℕ) (p : Part) (cells : List ℤ) (left : Left) → slice_get k.kinds n ≡ Some p → Stands k Kind (begins p.entry cells left)
   kind-stands n p cells left e =
       let entry : IsAddress k p.entry = kind-entry n p e in
       let among : Contains (entries k.kinds) p.entry = in-map (λ (q : Part). q.entry) k.kinds p (member k.kinds n p e) in
       record {
         address = entry;
         height = sym (entry-low p.entry entry (Contains-append_left (entries k.functions ++ entries k.kinds) (fragments k.sites) p.entry (Contains-append_right (entries k.functions) (entries k.kinds) p.entry among)));
-        part = inl (start among);
+        part = start among;
       }
 
   fragment-site : (sites : List Site) (a : ℕ) → Contains (fragments sites) a → (n : ℕ) × (t : Site) × (slice_get sites n ≡ Some t) × Contains (fragments_of t) a
@@ -254,100 +320,53 @@ module _ (k : RawCode) (verified : IsVerified k) where
           member-holds (IsAddress k) (fragments_of t) a (subst (λ (o : Option Site). IfThere o (HasEntries k)) e (subst (λ (z : ℕ). HasTargets k (instr.OfferAccept m z)) (sym names) (kept at (instr.OfferAccept m v) rule.Target here))) c
       by-name at i here names = absurd names
 
-  pub fragment-stands : (a : ℕ) (cells : List ℤ) (left : Left) → Contains (fragments k.sites) a → Stands k (begins a cells left)
+  pub fragment-stands : (a : ℕ) (cells : List ℤ) (left : Left) → Contains (fragments k.sites) a → Stands k Fragment (begins a cells left)
   fragment-stands a cells left c =
       let t : (n : ℕ) × (t : Site) × (slice_get k.sites n ≡ Some t) × Contains (fragments_of t) a = fragment-site k.sites a c in
       let entry : IsAddress k a = fragment-entry t.0 t.1 a t.2 t.3 in
       record {
         address = entry;
         height = sym (entry-low a entry (Contains-append_right (entries k.functions ++ entries k.kinds) (fragments k.sites) a c));
-        part = inr (start c);
+        part = (start c, refl);
       }
 
--- what is left, and the instructions since the last tick or grant
-module _ (k : RawCode) (s : State) where
-  one-more : s.count < most_steps → (address : ℕ) (stack : List ℤ) (store : Store) (frames : List Frame) → Spends s (Goes (record { address = address; stack = stack; store = store; left = s.left; count = suc s.count; frames = frames }))
-  one-more lt address stack store frames = (omega arith, inl (sym (add-one s.count), refl))
-
-  after-spends : (b : Bool) → (b || nat_lt s.count most_steps) ≡ true → (below : List ℤ) (o : Outcome Store Next) → Lower b s.left o → Spends s (after b s below o)
-  after-spends false e below (Through next store left) h = subst (λ m. Spends s (Goes (record { address = next.address; stack = below ++ next.given; store = store; left = m; count = suc s.count; frames = s.frames }))) (sym h) (one-more (less s.count most_steps e) next.address (below ++ next.given) store s.frames)
-  after-spends true e below (Through next store left) h = (omega arith, inr (refl, h))
-  after-spends false e below (Asked q) h = tt
-  after-spends true e below (Asked q) h = tt
-
-  popped-spends : (n : ℕ) (stack : List ℤ) (go : List ℤ → List ℤ → Stepped) → ((vs below : List ℤ) → Spends s (go vs below)) → Spends s (popped n stack go)
-  unfolding popped
-  popped-spends n stack go h = by (nat_le n (length stack))
-    where
-      by : (b : Bool) → Spends s (popped_if b n stack go)
-      by true = h _ _
-      by false = tt
-
-  worked-spends : (i : Instr) → (renews i || nat_lt s.count most_steps) ≡ true → Spends s (worked k i s)
-  worked-spends i e = popped-spends (takes k i) s.stack (worked_on k i s) (λ vs below. after-spends (renews i) e below (works k (s.address + 1) i vs s.store s.left) (works-lower k (s.address + 1) i vs s.store s.left))
-
-  called-spends : s.count < most_steps → (p : Option Part) → Spends s (called p s)
-  called-spends lt None = tt
-  called-spends lt (Some p) = go (nat_lt (length s.frames) most_calls) (nat_lt most_cells (length s.store.cells + cells_below s.frames + p.cells)) (nat_lt p.cells p.args)
-    where
-      go : (a b c : Bool) → Spends s (called_if a b c p s)
-      go false b c = tt
-      go true true c = tt
-      go true false true = tt
-      go true false false = popped-spends p.args s.stack (called_with p s) (λ vs below. one-more lt p.entry [] (record { cells = cells_at_start p vs; offers = s.store.offers }) (record { back = s.address + 1; stack = below; cells = s.store.cells } ∷ s.frames))
-
-  returned-spends : s.count < most_steps → (frames : List Frame) (vs : List ℤ) → Spends s (returned_to frames s vs)
-  returned-spends lt [] vs = tt
-  returned-spends lt (f ∷ frames) vs = one-more lt f.back (f.stack ++ vs) (record { cells = f.cells; offers = s.store.offers }) frames
-
-  performed-spends : (i : Instr) → (renews i || nat_lt s.count most_steps) ≡ true → Spends s (performed k i s)
-  performed-spends (instr.Call f) e = called-spends (less s.count most_steps e) (slice_get k.functions f)
-  performed-spends (instr.Ret n) e = popped-spends n s.stack (λ vs below. returned_to s.frames s vs) (λ vs below. returned-spends (less s.count most_steps e) s.frames vs)
-  performed-spends instr.Yield e = popped-spends 1 s.stack (λ vs below. Stops (Yields (first vs))) (λ vs below. tt)
-  performed-spends instr.End e = tt
-  performed-spends i e = worked-spends i e
-
-pub step-spends : (k : RawCode) (s : State) → Spends s (step k s)
-step-spends k s = go (slice_get k.instrs s.address)
-  where
-    go : (q : Option Instr) → Spends s (stepped k q s)
-    go None = tt
-    go (Some i) = by (renews i || nat_lt s.count most_steps) refl
-      where
-        by : (b : Bool) → (renews i || nat_lt s.count most_steps) ≡ b → Spends s (if b then performed k i s else Stops (Asks (Fault Depth)))
-        by true e = performed-spends k s i e
-        by false e = tt
-
 module _ (k : RawCode) (verified : IsVerified k) where
-  runs-on : (n : ℕ) (t : Stepped) → StandsAfter k t → FitAfter (AreFit k n) t → ((s : State) → Stands k s → AreFit k n s → NeverStrays (run k n s)) → NeverStrays (and_on (run k n) t)
-  runs-on n (Goes s) stands fit go = go s stands fit
-  runs-on n (Stops (Asks q)) stands fit go = tt
-  runs-on n (Stops (Yields v)) stands fit go = tt
-  runs-on n (Stops Strays) stands fit go = absurd stands
+  ended : (r : Runs) (x : Ran) → Ends r x → NeverStrays x
+  ended r Strays h = h
+  ended r (Asks q) h = tt
+  ended r (Yields v) h = tt
 
-  pub runs-stand : (n : ℕ) (s : State) → Stands k s → AreFit k n s → NeverStrays (run k n s)
-  unfolding run AreFit
-  runs-stand zero s stands fit = tt
-  runs-stand (suc n) s stands fit = runs-on n (step k s) (step-stands k verified s stands fit.0) fit.1 (λ t h f. runs-stand n t h f)
+  runs-on : (r : Runs) (n : ℕ) (t : Stepped) → StandsAfter k r t → Afterwards (AreAnsweredInFull k n) t → ((s : State) → Stands k r s → AreAnsweredInFull k n s → NeverStrays (run k n s)) → NeverStrays (and_on (run k n) t)
+  runs-on r n (Goes s) stands fit go = go s stands fit
+  runs-on r n (Stops x) stands fit go = ended r x stands
 
-  none-fit : (s : State) → s.left ≡ nothing_left → NextIsFit k s
+  pub runs-stand : (r : Runs) (n : ℕ) (s : State) → Stands k r s → AreAnsweredInFull k n s → NeverStrays (run k n s)
+  unfolding run AreAnsweredInFull
+  runs-stand r zero s stands fit = tt
+  runs-stand r (suc n) s stands fit = runs-on r n (step k s) (step-stands k verified r s stands fit.0) fit.1 (λ t h f. runs-stand r n t h f)
+
+  none-fit : (s : State) → s.left ≡ nothing_left → NextIsAnsweredInFull k s
   none-fit s e i here asks cells rest f = absurd (let g : [] ≡ Value cells ∷ rest = sym (ap (λ (l : Left). l.grants) e) ∙ f in cc)
 
-  ends-on : (n : ℕ) (s : State) → s.left ≡ nothing_left → (t : Stepped) → StandsAfter k t → Spends s t → ((u : State) → Stands k u → u.left ≡ nothing_left → NeverStrays (run k n u)) → NeverStrays (and_on (run k n) t)
-  ends-on n s e (Goes u) stands spends go = elim spends.1 [
-    | inl h ↦ go u stands (h.1 ∙ e)
-    | inr h ↦ absurd (let w : weight s.left ≡ 0 = ap weight e in omega (arith, h.1))
+  -- with nothing left nothing is left afterwards
+  still-nothing : (s t : State) (i : Instr) → s.left ≡ nothing_left → Spends i s (Goes t) → t.left ≡ nothing_left
+  still-nothing s t i e h = elim (spends-lighter i s t h) [
+    | inl d ↦ d.1 ∙ e
+    | inr d ↦ absurd (let w : weight s.left ≡ 0 = ap weight e in omega (arith, d.1))
   ]
-  ends-on n s e (Stops (Asks q)) stands spends go = tt
-  ends-on n s e (Stops (Yields v)) stands spends go = tt
-  ends-on n s e (Stops Strays) stands spends go = absurd stands
 
-  without-grants : (n : ℕ) (s : State) → Stands k s → s.left ≡ nothing_left → NeverStrays (run k n s)
+  ends-on : (n : ℕ) (s : State) → Stands k Fragment s → s.left ≡ nothing_left → enough s ≤ suc n → (t : Stepped) → step k s ≡ t → StandsAfter k Fragment t → ((u : State) → Stands k Fragment u → u.left ≡ nothing_left → enough u ≤ n → Ends Fragment (run k n u)) → Ends Fragment (and_on (run k n) t)
+  ends-on n s stands e b (Goes u) x after go =
+      let i : (i : Instr) × (slice_get k.instrs s.address ≡ Some i) = there k verified s.address stands.address in
+      go u after (still-nothing s u i.0 e (subst (Spends i.0 s) x (step-spends k s i.0 i.1))) (let d : enough u < enough s = subst (Down s) x (step-down k s) in omega (arith, d, b))
+  ends-on n s stands e b (Stops r) x after go = after
+
+  without-grants : (n : ℕ) (s : State) → Stands k Fragment s → s.left ≡ nothing_left → enough s ≤ n → Ends Fragment (run k n s)
   unfolding run
-  without-grants zero s stands e = tt
-  without-grants (suc n) s stands e = ends-on n s e (step k s) (step-stands k verified s stands (none-fit s e)) (step-spends k s) (λ u h f. without-grants n u h f)
+  without-grants zero s stands e b = absurd (omega (arith, b))
+  without-grants (suc n) s stands e b = ends-on n s stands e b (step k s) refl (step-stands k verified Fragment s stands (none-fit s e)) (λ u h f c. without-grants n u h f c)
 
   -- a fragment, which has no grant
-  pub fragment-runs : (a : ℕ) (cells : List ℤ) → Contains (fragments k.sites) a → NeverStrays (goes_on k (begins a cells nothing_left))
+  pub fragment-runs : (a : ℕ) (cells : List ℤ) → Contains (fragments k.sites) a → Ends Fragment (goes_on k (begins a cells nothing_left))
   unfolding goes_on
-  fragment-runs a cells c = without-grants (enough (begins a cells nothing_left)) (begins a cells nothing_left) (fragment-stands k verified a cells nothing_left c) refl
+  fragment-runs a cells c = without-grants (enough (begins a cells nothing_left)) (begins a cells nothing_left) (fragment-stands k verified a cells nothing_left c) refl (omega arith)

@@ -64,6 +64,7 @@ InFragment k at = Reaches (GoesTo k) (fragments k.sites) at
 abbrev pub InPart : RawCode → ℕ → ℕ → Type 0
 InPart k entry at = Reaches (GoesTo k) (entry ∷ []) at
 
+-- the same, where control stays within one select: none after its begin and none after it has waited
 abbrev pub successors_within : RawCode → ℕ → Option Instr → List ℕ
 successors_within k at None = []
 successors_within k at (Some instr.SelBegin) = []
@@ -74,6 +75,6 @@ successors_within k at (Some i) = successors k at i
 abbrev pub GoesWithin : RawCode → ℕ → ℕ → Type 0
 GoesWithin k x y = Contains (successors_within k x (slice_get k.instrs x)) y
 
--- control may come from an address to another within one select, from the one after it on
+-- control may come from the successors of an address to another address within one select
 abbrev pub ComesTo : RawCode → ℕ → ℕ → Type 0
 ComesTo k at wait = Reaches (GoesWithin k) (successors_within k at (slice_get k.instrs at)) wait

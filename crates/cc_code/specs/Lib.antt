@@ -1,5 +1,6 @@
 pub mod Checked
 pub mod Control
+pub mod Examples
 pub mod Judged
 pub mod Listing
 pub mod Meaning
@@ -9,5 +10,4 @@ pub mod Rules
 pub mod Standing
 pub mod Steps
 pub mod Waiting
-pub mod Worked
 pub mod Works

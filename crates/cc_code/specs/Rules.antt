@@ -126,7 +126,8 @@ height_at k at = get_or k.heights at 0
 abbrev pub HasHeight : RawCode → ℕ → ℕ → Type 0
 HasHeight k h at = IsAddress k at → height_at k at ≡ h
 
--- what is left of the height once an instruction took its cells
+-- what is left of the height once an instruction took its cells; 0 where the height is too small, which breaks an earlier rule than
+-- the one that looks at this
 abbrev pub rest_at : RawCode → ℕ → Instr → ℕ
 rest_at k at i = height_at k at - takes k i
 
@@ -139,7 +140,8 @@ GivesHeights k at i = AllByRecursion (HasHeight k (rest_at k at i + gives k i)) 
 abbrev pub all_entries : RawCode → List ℕ
 all_entries k = entries k.functions ++ entries k.kinds ++ fragments k.sites
 
--- the height of a `Ret`, which is the value of each function that it ends; of an `End`, and of a `SelWait`
+-- the height of a `Ret` is its number of cells, which each function that it ends has for its value; that of an `End` is 0, and that
+-- of a `SelWait`, after which it is 0
 abbrev pub HasOwnHeight : RawCode → ℕ → Instr → Type 0
 HasOwnHeight k at (instr.Ret n) = (height_at k at ≡ n) × ((f : ℕ) (p : Part) → slice_get k.functions f ≡ Some p → InPart k p.entry at → p.value ≡ n)
 HasOwnHeight k at (instr.SelWait j) = height_at k at ≡ 0
@@ -186,7 +188,7 @@ IsPure at (instr.JumpZero a) = at < a
 IsPure at instr.Yield = Unit {0}
 IsPure at i = ⊥
 
--- it ends or serves what only the body of a kind does
+-- only the body of a kind has it: what selects, replies or ends the process
 abbrev pub IsOnlyInKinds : Instr → Type 0
 IsOnlyInKinds instr.SelBegin = Unit {0}
 IsOnlyInKinds (instr.OfferAccept i s) = Unit {0}
@@ -209,7 +211,7 @@ IsYield i = ⊥
 -- Reach: it stands in no part where it may not
 pub record IsPlaced (k : RawCode) (at : ℕ) (i : Instr) : Type 0 where
   pub ret : IsRet i → InKind k at → ⊥
-  pub no_select_in_function : IsOnlyInKinds i → InFunction k at → ⊥
+  pub only_in_kinds : IsOnlyInKinds i → InFunction k at → ⊥
   pub yield_in_function : IsYield i → InFunction k at → ⊥
   pub yield_in_kind : IsYield i → InKind k at → ⊥
 

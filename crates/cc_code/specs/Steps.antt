@@ -1,8 +1,9 @@
 -- What a process does step by step.
-use Rattle.std.specs.Prelude.{ℕ, zero, suc, ◌+◌, ◌-◌, ◌*◌, ℤ, pos, List, [], ◌∷◌, ◌++◌, length, take, drop, replicate, slice_get, Option, Some, None, nat_le, nat_lt, Bool, true, false, ◌||◌, if◌then◌else◌}
+use Rattle.std.specs.Prelude.{ℕ, zero, suc, ◌+◌, ◌-◌, ◌*◌, ℤ, pos, List, [], ◌∷◌, ◌++◌, length, take, drop, replicate, slice_get, Option, Some, None, nat_le, nat_lt, Bool, true, false, if◌then◌else◌}
 use Rattle.cc_base.specs.Limits.{most_calls, most_cells, most_steps}
 use Rattle.cc_base.specs.Outcome.{Left, Outcome, Through, Asked}
 use Rattle.cc_base.specs.declared.names.FaultKind.TheVariants.{Cells, Depth, Index}
+use Rattle.cc_base.specs.declared.request.Grant.{Grant}
 use Rattle.cc_base.specs.declared.request.Request.{Request}
 use Rattle.cc_base.specs.declared.request.Request.TheVariants.{Pause, Done, Fault}
 use Rattle.cc_code.specs.Operands.{takes}
@@ -12,7 +13,7 @@ use Rattle.cc_code.specs.declared.code.RawCode.{RawCode}
 use Rattle.cc_code.specs.declared.instr.Instr.{Instr}
 use Rattle.cc_code.specs.declared.instr.Instr.TheVariants as instr
 
--- the instruction spends a tick or gets a grant, where it goes on
+-- where it goes on, the instruction spent a tick or got a grant
 abbrev pub renews : Instr → Bool
 renews instr.Tick = true
 renews (instr.Create kind) = true
@@ -93,17 +94,17 @@ abbrev pub called_with : Part → State → List ℤ → List ℤ → Stepped
 called_with p s args below =
     Goes (record { address = p.entry; stack = []; store = record { cells = cells_at_start p args; offers = s.store.offers }; left = s.left; count = suc s.count; frames = record { back = s.address + 1; stack = below; cells = s.store.cells } ∷ s.frames })
 
+-- a call, unless too many calls are active, or too many variable cells would be, or the part lacks cells for its arguments
 abbrev pub called_if : Bool → Bool → Bool → Part → State → Stepped
-called_if false past lacks p s = Stops (Asks (Fault Depth))
-called_if true true lacks p s = Stops (Asks (Fault Cells))
-called_if true false true p s = Stops (Asks (Fault Index))
-called_if true false false p s = popped p.args s.stack (called_with p s)
+called_if true many lacks p s = Stops (Asks (Fault Depth))
+called_if false true lacks p s = Stops (Asks (Fault Cells))
+called_if false false true p s = Stops (Asks (Fault Index))
+called_if false false false p s = popped p.args s.stack (called_with p s)
 
--- a call, where no more calls may be active than the most, and no more variable cells, and the arguments are among them
 abbrev pub called : Option Part → State → Stepped
 called None s = Stops Strays
 called (Some p) s =
-    called_if (nat_lt (length s.frames) most_calls) (nat_lt most_cells (length s.store.cells + cells_below s.frames + p.cells)) (nat_lt p.cells p.args) p s
+    called_if (nat_le most_calls (length s.frames)) (nat_lt most_cells (length s.store.cells + cells_below s.frames + p.cells)) (nat_lt p.cells p.args) p s
 
 -- back behind the call, with these cells
 abbrev pub returned_to : List Frame → State → List ℤ → Stepped
@@ -118,10 +119,14 @@ performed k instr.Yield s = popped 1 s.stack (λ vs below. Stops (Yields (first 
 performed k instr.End s = Stops (Asks Done)
 performed k i s = worked k i s
 
--- no instruction comes after the most since the last grant or tick, but one that brings another
+-- code that would go on after more instructions than the most since the last grant or tick is at fault
+abbrev pub within_bound : Stepped → Stepped
+within_bound (Goes s) = if nat_le s.count most_steps then Goes s else Stops (Asks (Fault Depth))
+within_bound (Stops r) = Stops r
+
 abbrev pub stepped : RawCode → Option Instr → State → Stepped
 stepped k None s = Stops Strays
-stepped k (Some i) s = if renews i || nat_lt s.count most_steps then performed k i s else Stops (Asks (Fault Depth))
+stepped k (Some i) s = within_bound (performed k i s)
 
 -- one instruction
 abbrev pub step : RawCode → State → Stepped
@@ -148,3 +153,8 @@ enough s = suc ((most_steps - s.count) + (most_steps + 1) * weight s.left)
 -- what comes of code from a state on
 unfoldable pub goes_on : RawCode → State → Ran
 goes_on k s = run k (enough s) s
+
+-- the state with these grants left
+abbrev pub with_grants : State → List Grant → State
+with_grants s grants =
+    record { address = s.address; stack = s.stack; store = s.store; left = record { grants = grants; ticks = s.left.ticks }; count = s.count; frames = s.frames }

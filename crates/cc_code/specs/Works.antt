@@ -193,8 +193,8 @@ on_with_cells next p = p >>= (λ vs. go_to next vs)
 abbrev pub on_after : ℕ → Eval Store (Unit {0}) → Eval Store Next
 on_after next p = p >>= (λ _. go_to next [])
 
--- what the instruction before address `next` does with the cells that it takes; calls and ends of parts have their own
--- rules
+-- what the instruction before address `next` does with the cells that it takes; of calls and ends of parts, which have rules of
+-- their own, nothing is said here, and the last four lines are never looked at
 abbrev pub works : RawCode → ℕ → Instr → List ℤ → Eval Store Next
 works k next (instr.Const v) vs = go_to next (v ∷ [])
 works k next (instr.Zeros n) vs = go_to next (replicate n (pos 0))

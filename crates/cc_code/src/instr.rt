@@ -6,8 +6,8 @@ use cc_base::NumberType;
 /// Before each meaning stand the cells that the instruction takes from the top of the stack and those that it leaves in
 /// their place, as `taken -> given`, the top last. Every instruction but `Jump`, `JumpZero`, `Call`, `Ret`, `AskWithin`,
 /// `SelWait`, `Yield` and `End` goes on to the one after it. The results of arithmetic are numbers of the type: 0 to 255 for
-/// `char`. Every instruction but `Tick` and those that ask has one fault more: `Depth`, where 131,072 instructions came since
-/// the last tick or grant.
+/// `char`. There is one fault more: `Depth`, where an instruction would go on, having neither spent a tick nor got a grant, and
+/// 131,072 others came since the last of either.
 #[derive(Clone, Copy, Debug, Drop)]
 pub enum Instr {
     /// `-> number`. A number.
@@ -20,7 +20,8 @@ pub enum Instr {
     Dup,
     /// `offset -> offset`. So many cells further. Index above 2^63 - 1.
     Field(u32),
-    /// `offset index -> offset`. The element of this index. Index outside the array, and above 2^63 - 1.
+    /// `offset index -> offset`. The element of this index, in an array of `length` elements of `stride` cells each. Index outside
+    /// the array, and above 2^63 - 1.
     Index { length: u32, stride: u32 },
     /// `offset -> cell ..`. So many variable cells. Index outside the variables.
     Fetch(u32),
@@ -31,9 +32,11 @@ pub enum Instr {
     Bump { number_type: NumberType, by: i64 },
     /// `->`. So many variable cells from this offset on become 0. Index outside the variables.
     Zero { offset: u64, cells: u32 },
-    /// `cell .. -> cell ..`. Of so many cells, those from this place on, so many. Index where from + kept is above cells.
+    /// `cell .. -> cell ..`. Of a number of `cells`, `kept` of them, those from the place `from` on, which counts from 0. Index
+    /// where from + kept is above cells.
     Part { from: u32, cells: u32, kept: u32 },
-    /// `cell .. index -> cell ..`. Of so many elements of so many cells, the one of this index. Index outside.
+    /// `cell .. index -> cell ..`. Of `length` elements of `stride` cells each, the one of this index. Index outside 0 to
+    /// length - 1.
     Pick { length: u32, stride: u32 },
     /// `left right -> number`. Their sum. Overflow.
     Add(NumberType),
@@ -61,7 +64,8 @@ pub enum Instr {
     Ne,
     /// `number -> truth`. 1 for 0, and else 0.
     Not,
-    /// `number -> number`. A `long` as a number of this type: modulo 256 as a `char`. Overflow where it is no `int`.
+    /// `number -> number`. A `long` as a number of this type: as a `char` it is taken modulo 256, as an `int` it is Overflow where it
+    /// does not fit, and as a `long` it stays.
     Narrow(NumberType),
     /// `->`. Goes on at this address.
     Jump(u16),
@@ -70,8 +74,9 @@ pub enum Instr {
     /// `->`. Spends a tick.
     Tick,
     /// `argument .. -> value ..`. Calls a function, which goes on at its entry, with the arguments and then zeros for its
-    /// variables and with an empty stack. Depth where 1,000 calls are active, Cells where more than 65,536 variable cells
-    /// would be, Index where it has more arguments than variable cells.
+    /// variables and with an empty stack. Depth where 1,000 calls are active; Cells where the function and all calls that are
+    /// active, with the body that made the first, would have more than 65,536 variable cells together; Index where the function has
+    /// more arguments than variable cells.
     Call(u32),
     /// `value ..`. Goes back behind the call, with so many cells.
     Ret(u32),

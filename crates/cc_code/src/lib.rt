@@ -1,11 +1,20 @@
 //! The instructions of compiled programs, what code means, and code that was verified.
 //!
-//! [`RawCode`] is code of which nothing is known. What it means stands in `specs/`: `Operands` says how many cells each
-//! instruction takes and gives, `Works` what it does, `Steps` what a process does step by step, and `Meaning` what a
-//! program of this code is to the machine. docs/CODE.md has the instructions as a reference page.
+//! [`RawCode`] is code of which nothing is known, and [`Code`] is code that [`verify`] found to break no rule. docs/CODE.md has the
+//! instructions and the rules as a reference page. Their definitions stand in `specs/`:
+//!
+//! - What code means: `Operands` says how many cells each instruction takes and gives, `Works` what it does, `Steps` what a process
+//!   does step by step, and `Meaning` what a program of this code is to the machine. `Examples` has small programs.
+//! - When code is verified: `Control` says where control goes and what each entry reaches, `Rules` what each rule demands.
+//! - What holds of verified code between two instructions: `Standing`.
+//! - The lines of a listing: `Listing`.
+//!
+//! `Reach`, `Waiting`, `Checked` and `Judged` say what the passes of `verify` keep while they work. No public contract names them, so
+//! a reader of the contracts can leave them out.
 #![tactic(auto)]
 
 mod code;
+mod examples;
 mod facts;
 mod formats;
 mod instr;
@@ -21,7 +30,6 @@ mod tables;
 mod unnamed;
 mod verified;
 mod waits;
-mod worked;
 
 pub use code::{EnvironmentPart, Part, RawCode, Site, TableEntry};
 pub use instr::Instr;

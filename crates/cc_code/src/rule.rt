@@ -15,7 +15,8 @@ pub enum Rule {
     /// What is named is there and of the right kind, and the tables of a `select` agree with its offers; kind 0 is there and
     /// takes no arguments.
     Table,
-    /// Each height is enough for its instruction and is what the one before leaves; it is 0 at entries and where a part ends.
+    /// Each height is enough for its instruction and is what the one before leaves. It is 0 at entries, at a `SelWait` and at an
+    /// `End`; a `Ret` has just the cells that it gives, which are the value of each function that it ends.
     Height,
     /// Nothing falls through the last instruction.
     Fall,

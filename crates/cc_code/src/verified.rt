@@ -48,6 +48,14 @@ impl Code {
     {
         self.raw.instrs.as_slice()
     }
+
+    /// All of the code, which breaks no rule.
+    pub fn raw(&self) -> &RawCode
+        ensures value { result.now ≡ self.now }
+        ensures verified { IsVerified result.now }
+    {
+        &self.raw
+    }
 }
 
 /// The code, where it breaks no rule; else the first instruction that breaks one, and the first rule that it breaks.

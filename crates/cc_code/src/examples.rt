@@ -1,14 +1,16 @@
 //! The code of small programs, held against the definitions.
 ghost use Rattle.std.specs.Prelude.{◌≡◌, pos, negsuc, [], ◌∷◌, ◌++◌, Some, None};
 ghost use Rattle.cc_base.specs.declared.alternatives.Alt.TheVariants.{Accept, Terminate};
-ghost use Rattle.cc_base.specs.declared.names.FaultKind.TheVariants.{CalleeGone};
+ghost use Rattle.cc_base.specs.declared.names.FaultKind.TheVariants.{CalleeGone, Cells, Depth, NoAlternative};
 ghost use Rattle.cc_base.specs.declared.request.Grant.TheVariants.{Go, Late, Gone, Took, Value};
 ghost use Rattle.cc_base.specs.declared.request.Request.TheVariants.{Create, Done, Fault, Print, Reply, Select, TimedCall};
 ghost use Rattle.cc_code.specs.Meaning.{act, fit};
-ghost use Rattle.cc_code.specs.Worked.CallsItself as calls_itself;
-ghost use Rattle.cc_code.specs.Worked.Hello as hello;
-ghost use Rattle.cc_code.specs.Worked.Ranked as ranked;
-ghost use Rattle.cc_code.specs.Worked.TimedCall as timed_call;
+ghost use Rattle.cc_code.specs.Examples.AtTheBound as bound;
+ghost use Rattle.cc_code.specs.Examples.CallsItself as calls_itself;
+ghost use Rattle.cc_code.specs.Examples.Hello as hello;
+ghost use Rattle.cc_code.specs.Examples.Ranked as ranked;
+ghost use Rattle.cc_code.specs.Examples.TimedCall as timed_call;
+ghost use Rattle.cc_code.specs.Steps.{Asks, Goes, Stops, step};
 
 /// Two bytes are printed, one after the other.
 fn bytes_are_printed_in_order()
@@ -43,4 +45,15 @@ fn calls_are_ranked_by_their_clauses()
 fn a_function_comes_back()
     ensures prints { act calls_itself.code 0 [] (Go ∷ []) ≡ Print (65 ∷ []) }
     ensures ends { act calls_itself.code 0 [] (Go ∷ Go ∷ []) ≡ Done }
+{}
+
+/// At the bound an instruction that stops does so as ever, and one that goes on without a tick or a grant is a fault.
+fn the_bound_is_for_what_goes_on()
+    ensures ends { step bound.code (bound.at 0) ≡ Stops (Asks Done) }
+    ensures selects { step bound.code (bound.at 1) ≡ Stops (Asks (Fault NoAlternative)) }
+    ensures lacks_cells { step bound.code (bound.at 2) ≡ Stops (Asks (Fault Cells)) }
+    ensures jumps { step bound.code (bound.at 3) ≡ Stops (Asks (Fault Depth)) }
+    ensures calls { step bound.code (bound.at 4) ≡ Stops (Asks (Fault Depth)) }
+    ensures ticks { step bound.code (bound.at 5) ≡ Goes bound.after_tick }
+    ensures one_before { step bound.code (bound.before 3 131071) ≡ Goes bound.after_jump }
 {}

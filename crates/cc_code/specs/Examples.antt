@@ -1,3 +1,4 @@
+pub mod AtTheBound
 pub mod CallsItself
 pub mod Hello
 pub mod Ranked
