@@ -1,14 +1,14 @@
 -- The best of the calls of a chain so far, and of all calls once the chain is at its end.
-use Rattle.std.proofs.Common.{◌≡◌, ◌≢◌, ℕ, ℤ, ◌+◌, ◌-◌, ◌<◌, ◌≤◌, ◌^◌, ◌⊎◌, Bool, true, false, cond, ◌&&◌, ◌||◌, List, [], ◌∷◌, Option, Some, None, refl, sym, ap, ◌∙◌, subst, inl, inr, arith}
-use Rattle.std.specs.Prelude.{int_le, int_lt, nat_eq, nat_le, MatchOption}
+use Rattle.std.proofs.Common.{◌≡◌, ◌≢◌, ℕ, ℤ, ◌+◌, ◌-◌, ◌<◌, ◌≤◌, ◌^◌, ◌⊎◌, Bool, true, false, ◌&&◌, ◌||◌, List, [], ◌∷◌, Option, Some, None, refl, sym, ap, ◌∙◌, subst, inl, inr, arith}
+use Rattle.std.specs.Prelude.{int_le, int_lt, nat_eq, nat_le}
 use Rattle.std.specs.List.{list_all}
-use Rattle.std.specs.Option.{option_map, option_map_or}
-use Rattle.std.proofs.lemmas.Bool.{cases_eq, cases_lt, eq-eqb, ne_eqb, cond-true, cond-false, cond_both, and_from, and_left, and_parts, and_right, false_from_ne_true, eqb-true, le-leb, or_left, or_right}
+use Rattle.std.specs.Option.{option_map}
+use Rattle.std.proofs.lemmas.Bool.{cases_lt, eq-eqb, cond-true, cond-false, cond_both, and_from, and_parts, false_from_ne_true, eqb-true, le-leb, or_left, or_right}
 use Rattle.std.proofs.lemmas.Int.{ints}
 use Rattle.slab.specs.Slab.{Slab, get}
 use Rattle.cc_base.specs.Meaning.{Meaning}
 use Rattle.cc_base.specs.declared.names.CallId.{CallId}
-use Rattle.cc_queue.specs.Chains.{IsChained, IsNext, HasNearest, Link, Place, call_at, link_of, links, place_of, places}
+use Rattle.cc_queue.specs.Chains.{IsChained, IsNext, Place, call_at, link_of, links, place_of, places}
 use Rattle.cc_queue.specs.Choice.{better, goes_before, rank}
 use Rattle.cc_queue.specs.Kept.{held_calls, in_order}
 use Rattle.cc_queue.specs.declared.call.PendingCall.{PendingCall}

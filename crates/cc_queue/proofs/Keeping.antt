@@ -1,7 +1,7 @@
 -- The calls stay kept: where room is made, where one is put in, and where one is taken out.
-use Rattle.std.proofs.Common.{◌≡◌, ◌≢◌, ℕ, ◌+◌, ◌-◌, ◌<◌, ◌≤◌, ◌^◌, ◌⊎◌, Bool, true, false, cond, eqb, List, [], ◌∷◌, ◌++◌, get_or, Option, Some, None, is_some, count_by, filter, not, nat_eq, All, refl, sym, ap, ◌∙◌, subst, inl, inr, arith}
+use Rattle.std.proofs.Common.{◌≡◌, ◌≢◌, ℕ, ◌<◌, ◌≤◌, ◌^◌, ◌⊎◌, true, false, cond, eqb, List, [], ◌∷◌, ◌++◌, get_or, Option, Some, None, is_some, count_by, filter, not, nat_eq, All, refl, sym, ap, ◌∙◌, subst, inl, inr, arith}
 use Rattle.std.specs.Option.{option_map}
-use Rattle.std.proofs.lemmas.Bool.{cases_eq, eq-eqb, ne_eqb, cond-true, cond-false}
+use Rattle.std.proofs.lemmas.Bool.{cases_eq, eq-eqb, eqb-true, ne_eqb, cond-true, cond-false}
 use Rattle.slab.specs.Slab.{Slab, get, slab_len, HasRoomFor, Updates}
 use Rattle.cc_queue.specs.Chains.{Link, Place, link_of, place_of, places, links, but, call_at, IsNext, IsPrevious, IsChained}
 use Rattle.cc_queue.specs.Calls.{AreRising, CallList, call_numbered}
@@ -271,3 +271,23 @@ only_call nodes ends slot n chained at d m e =
     let called : call_at nodes slot ≡ Some n.call = ap (λ o. option_map (λ (z : Node). z.call) o) at in
     let one = slots_apart nodes ends chained found.0 slot d n.call found.1 called e in
     same_call (call_at nodes slot) d n.call (ap (call_at nodes) (sym one) ∙ found.1) called
+
+-- and none of the target's has a smaller number
+pub least_of_first : (nodes : Slab Node) (target slot : ℕ) (n : Node) → IsNext (places (links Target nodes)) (target, 0) 0 (Some slot) → get nodes slot ≡ Some n → (d : PendingCall) → Among d (in_order (held_calls nodes.slots)) → nat_eq d.target.0 target ≡ true → n.call.number.0 ≤ d.number.0
+least_of_first nodes target slot n next at d m e =
+    let p = target_place (get nodes slot) n.call (ap (λ o. option_map (λ (m : Node). m.call) o) at) in
+    let same : p.0 ≡ next.place = cc (p.1, next.at) in
+    let found = slot_of nodes.slots d m in
+    let q = target_place (get nodes found.0) d found.1 in
+    let less = next.nearest found.0 q.0 q.1 (q.2 ∙ ap (λ k. (k, 0)) (eqb-true d.target.0 target e)) (omega arith) in
+    let here = target_number (get nodes slot) n.call p.0 (ap (λ o. option_map (λ (m : Node). m.call) o) at) p.1 in
+    let there = target_number (get nodes found.0) d q.0 found.1 q.1 in
+    let one = ap (λ (z : Place). z.number) same in
+    omega (arith, less, here, there, one)
+  where
+    target_number : (o : Option Node) (c : PendingCall) (p : Place) → option_map (λ (n : Node). n.call) o ≡ Some c → option_map place_of (option_map (link_of Target) o) ≡ Some p → p.number ≡ c.number.0
+    target_number None c p e h = absurd (cc)
+    target_number (Some n) c p e h =
+        let same : n.call ≡ c = cc in
+        let placed : place_of (link_of Target n) ≡ p = cc in
+        ap (λ (z : Place). z.number) (sym placed) ∙ ap (λ (z : PendingCall). z.number.0) same

@@ -1,8 +1,8 @@
 -- What a chain's links say of each other, and that the chains are whole again once a call is put at the end of its chain.
-use Rattle.std.proofs.Common.{◌≡◌, ◌≢◌, ℕ, ◌+◌, ◌<◌, ◌≤◌, ◌^◌, ◌⊎◌, Bool, true, false, cond, eqb, Option, Some, None, refl, sym, ap, ◌∙◌, subst, inl, inr, arith}
+use Rattle.std.proofs.Common.{◌≡◌, ◌≢◌, ℕ, ◌+◌, ◌<◌, ◌^◌, ◌⊎◌, true, false, eqb, Option, Some, None, refl, sym, ap, ◌∙◌, subst, inl, inr, arith}
 use Rattle.std.proofs.lemmas.Bool.{cases_eq, cases_lt, eq-eqb, ne_eqb, eqb-true, cond-true, cond-false, and_parts, and_from, false_from_ne_true}
 use Rattle.std.specs.Option.{option_map}
-use Rattle.cc_queue.specs.Chains.{Link, Place, place_of, places, but, has_last, is_lane, is_slot, with_before, with_after, HasNearest, IsNearest, IsNext, IsPrevious, AreApart, IsChained}
+use Rattle.cc_queue.specs.Chains.{Link, Place, place_of, places, but, has_last, is_lane, is_slot, with_before, with_after, IsNext, IsPrevious, IsChained}
 use Rattle.cc_queue.specs.declared.chains.Ends.{Ends}
 use Rattle.cc_queue.proofs.Nearest.{same_place, Adds, added_or_old, next_kept, next_kept_some, next_kept_apart, next_added, previous_kept, previous_kept_apart, previous_added, previous_down, apart_added}
 

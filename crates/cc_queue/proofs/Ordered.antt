@@ -2,7 +2,7 @@
 use Rattle.std.proofs.Common.{◌≡◌, ◌≢◌, ℕ, suc, zero, ◌<◌, ◌≤◌, ◌⊎◌, Bool, true, false, cond, not, eqb, ltb, List, [], ◌∷◌, ◌++◌, length, get_or, Option, Some, None, filter, refl, sym, ap, ◌∙◌, subst, inl, inr, arith, All, Contains}
 use Rattle.std.specs.List.{AllByRecursion}
 use Rattle.std.specs.Option.{option_map}
-use Rattle.std.proofs.lemmas.Bool.{ltb-true, ltb-false, eqb-true, eqb-false, eq-eqb, ne_eqb, false≢true, cases_eq, cond-true, cond-false, not-false}
+use Rattle.std.proofs.lemmas.Bool.{ltb-true, ltb-false, eqb-true, eq-eqb, ne_eqb, false≢true, cond-true, cond-false, not-false}
 use Rattle.std.proofs.lemmas.List.Sums.{length-filter, count_by-le-length}
 use Rattle.std.proofs.lemmas.List.Elements.{All-from_recursion, recursion_from_All}
 use Rattle.cc_queue.specs.Calls.{AreRising, IsBelow}
@@ -281,3 +281,34 @@ filter_filter test number (d ∷ ds) h =
 pub filter_whole : (test : PendingCall → Bool) (cs : List PendingCall) → ((d : PendingCall) → Among d cs → test d ≡ true) → filter test cs ≡ cs
 filter_whole test [] h = refl
 filter_whole test (d ∷ ds) h = cond-true (test d) _ _ (h d (inl refl)) ∙ ap (λ z. d ∷ z) (filter_whole test ds (λ z m. h z (inr m)))
+
+-- of the calls that pass, that of the least number comes first, and then those that pass without it
+pub first_passing :
+    (test : PendingCall → Bool) (c : PendingCall) (cs : List PendingCall)
+    → AreRising cs
+    → Among c cs
+    → test c ≡ true
+    → ((d : PendingCall) → Among d cs → test d ≡ true → c.number.0 ≤ d.number.0)
+    → filter test cs ≡ c ∷ filter test (filter (λ (d : PendingCall). not (eqb d.number.0 c.number.0)) cs)
+first_passing test c [] r m t least = absurd m
+first_passing test c (d ∷ ds) r (inl same) t least =
+    let other : PendingCall → Bool = λ z. not (eqb z.number.0 c.number.0) in
+    let here = ap (λ (z : PendingCall). z.number.0) same in
+    let rest =
+    cond-false (other d) (d ∷ filter other ds) (filter other ds) (ap not (eq-eqb d.number.0 c.number.0 here))
+    ∙ filter_whole other ds
+    (λ z n. let below = below_among d z ds r.0 n in ap not (ne_eqb z.number.0 c.number.0 (λ k. omega (arith, below, k, here)))) in
+    cond-true (test d) (d ∷ filter test ds) (filter test ds) (ap test same ∙ t)
+    ∙ ap (λ z. z ∷ filter test ds) same
+    ∙ sym (ap (λ zs. c ∷ filter test zs) rest)
+first_passing test c (d ∷ ds) r (inr m) t least =
+    let other : PendingCall → Bool = λ z. not (eqb z.number.0 c.number.0) in
+    let below = below_among d c ds r.0 m in
+    let fails : test d ≡ false = from_true (test d) (λ e. let l = least d (inl refl) e in omega (arith, l, below)) in
+    cond-false (test d) (d ∷ filter test ds) (filter test ds) fails
+    ∙ first_passing test c ds r.1 m t (λ z n. least z (inr n))
+    ∙ sym (ap (λ zs. c ∷ zs) (ap (filter test) (cond-true (other d) (d ∷ filter other ds) (filter other ds) (ap not (ne_eqb d.number.0 c.number.0 (λ k. omega (arith, below, k))))) ∙ cond-false (test d) (d ∷ filter test (filter other ds)) (filter test (filter other ds)) fails))
+  where
+    from_true : (b : Bool) → (b ≡ true → ⊥) → b ≡ false
+    from_true true h = absurd (h refl)
+    from_true false h = refl

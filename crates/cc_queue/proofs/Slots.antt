@@ -1,16 +1,14 @@
 -- What becomes of the nodes in a slab where one is written, put in or taken out.
-use Rattle.std.proofs.Common.{◌≡◌, ◌≢◌, ℕ, ◌+◌, ◌<◌, ◌≤◌, ◌^◌, ◌⊎◌, Bool, true, false, cond, ◌&&◌, eqb, Option, Some, None, is_some, length, get_or, refl, sym, ap, ◌∙◌, subst, inl, inr, arith, rules}
+use Rattle.std.proofs.Common.{◌≡◌, ◌≢◌, ℕ, ◌<◌, ◌^◌, Bool, true, false, cond, eqb, Option, Some, None, is_some, get_or, refl, sym, ap, ◌∙◌, subst, inl, inr, arith, rules}
 use Rattle.std.specs.Prelude.{IsOk, IsSome, OnOk, Result, Ok, Err}
 use Rattle.std.specs.Option.{option_map}
-use Rattle.std.proofs.lemmas.Bool.{cases_eq, eq-eqb, ne_eqb, eqb-true, cond-true, cond-false, and_parts, and_from, false_from_ne_true}
+use Rattle.std.proofs.lemmas.Bool.{cases_eq, eq-eqb, ne_eqb, cond-true, cond-false}
 use Rattle.std.proofs.lemmas.List.Sums.{sum_by-set}
-use Rattle.slab.specs.Slab.{Slab, get, slab_len, with_value, ContainsKey, Updates}
+use Rattle.slab.specs.Slab.{Slab, get, slab_len, with_value, ContainsKey}
 use Rattle.slab.proofs.SlabLemmas.{ContainsKey-within, Updates-with_value}
-use Rattle.cc_queue.specs.Chains.{Link, Place, lane_of, link_of, place_of, places, links, but, call_at, other_chain, is_lane, is_slot, has_last, first_moved, last_moved, with_before, with_after, Standing, IsWritten, IsChained, IsPrevious}
-use Rattle.cc_queue.specs.declared.call.PendingCall.{PendingCall}
+use Rattle.cc_queue.specs.Chains.{Link, link_of, place_of, places, links, but, other_chain, is_lane, is_slot, has_last, with_before, with_after, Standing, IsWritten, IsChained, IsPrevious}
 use Rattle.cc_queue.specs.declared.chains.Ends.{Ends}
 use Rattle.cc_queue.specs.declared.node.Chain.{Chain}
-use Rattle.cc_queue.specs.declared.node.Chain.TheVariants.{Transaction, Target}
 use Rattle.cc_queue.specs.declared.node.Node.{Node}
 use Rattle.cc_queue.proofs.Linked.{lane_itself, lane_differs, slot_named, slot_not_named, Links, linked_chained, but_here}
 

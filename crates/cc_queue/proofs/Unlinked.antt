@@ -1,11 +1,11 @@
 -- The chains without a call are whole again once its neighbours are each other's.
-use Rattle.std.proofs.Common.{◌≡◌, ◌≢◌, ℕ, ◌+◌, ◌<◌, ◌≤◌, ◌^◌, ◌⊎◌, Bool, true, false, cond, ◌&&◌, eqb, Option, Some, None, refl, sym, ap, ◌∙◌, subst, inl, inr, arith}
-use Rattle.std.proofs.lemmas.Bool.{cases_eq, eq-eqb, ne_eqb, eqb-true, cond-true, cond-false, true≢false, false≢true, and_parts, and_from, false_from_ne_true}
+use Rattle.std.proofs.Common.{◌≡◌, ◌≢◌, ℕ, ◌+◌, ◌<◌, ◌≤◌, ◌^◌, ◌⊎◌, Bool, true, false, cond, ◌&&◌, Option, Some, None, refl, sym, ap, ◌∙◌, subst, inl, inr}
+use Rattle.std.proofs.lemmas.Bool.{cases_eq, cond-true, cond-false, true≢false, false≢true}
 use Rattle.std.specs.Option.{option_map}
-use Rattle.cc_queue.specs.Chains.{Link, Place, place_of, places, but, is_slot, is_end, is_lane, first_moved, last_moved, with_before, with_after, HasNearest, IsNearest, IsNext, IsPrevious, AreApart, IsChained}
+use Rattle.cc_queue.specs.Chains.{Link, Place, place_of, places, but, is_slot, is_end, is_lane, first_moved, last_moved, with_before, with_after, IsNext, IsPrevious, IsChained}
 use Rattle.cc_queue.specs.declared.chains.Ends.{Ends}
 use Rattle.cc_queue.proofs.Nearest.{Removes, nearest_stays, next_moves, previous_moves, apart_removed, new_is_old}
-use Rattle.cc_queue.proofs.Linked.{but_here, but_other, option_cases, slot_cases, lane_cases, lane_itself, lane_differs, slot_named, slot_not_named, same_places, place_at_link, link_at_place, before_after, after_before, first_from_none, last_from_none, none_before_first, none_after_last}
+use Rattle.cc_queue.proofs.Linked.{but_here, but_other, slot_cases, lane_cases, lane_itself, lane_differs, slot_named, slot_not_named, same_places, place_at_link, before_after, after_before, first_from_none, last_from_none, none_before_first, none_after_last}
 
 -- what becomes of the link y of slot t where x is taken out: it stays but for neighbours that were x's slot
 pub record Relinks (x : Link) (t : ℕ) (y z : Link) : Type 0 where

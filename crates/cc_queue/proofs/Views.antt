@@ -1,15 +1,14 @@
 -- The list of the calls in the slots, where one is put in or taken out.
-use Rattle.std.proofs.Common.{◌≡◌, ◌≢◌, ℕ, ◌<◌, ◌⊎◌, Bool, true, false, not, eqb, List, [], ◌∷◌, ◌++◌, get_or, Option, Some, None, filter, refl, sym, ap, ◌∙◌, subst, inl, inr, arith}
+use Rattle.std.proofs.Common.{◌≡◌, ◌≢◌, ℕ, ◌<◌, Bool, not, eqb, List, [], ◌∷◌, ◌++◌, Option, Some, None, filter, refl, sym, ap, ◌∙◌, subst, inl, inr}
 use Rattle.std.specs.Option.{option_map}
 use Rattle.std.proofs.lemmas.Bool.{cases_eq, eq-eqb, ne_eqb, both_ways}
 use Rattle.slab.specs.Slab.{Slab, get}
 use Rattle.cc_queue.specs.Calls.{AreRising}
-use Rattle.cc_queue.specs.Chains.{Link, Place, link_of, place_of, places, links, call_at, IsChained}
+use Rattle.cc_queue.specs.Chains.{Place, link_of, place_of, links, IsChained}
 use Rattle.cc_queue.specs.Kept.{held_calls, in_order}
 use Rattle.cc_queue.specs.declared.call.PendingCall.{PendingCall}
 use Rattle.cc_queue.specs.declared.chains.Ends.{Ends}
-use Rattle.cc_queue.specs.declared.node.Chain.{Chain}
-use Rattle.cc_queue.specs.declared.node.Chain.TheVariants.{Transaction, Target}
+use Rattle.cc_queue.specs.declared.node.Chain.TheVariants.{Transaction}
 use Rattle.cc_queue.specs.declared.node.Node.{Node}
 use Rattle.cc_queue.proofs.Ordered.{Among, in_slot, SlotsApart, among_held, held_among, held_distinct, among_in_order, in_order_among, in_order_rising, same_calls, append_rising, among_append, append_among, filter_rising, among_filter, filter_among}
 

@@ -1,5 +1,5 @@
 -- How the pending calls are kept.
-use Rattle.std.specs.Prelude.{◌≡◌, ℕ, ◌≤◌, Bool, if◌then◌else◌, List, [], ◌∷◌, Option, Some, None, nat_lt}
+use Rattle.std.specs.Prelude.{◌≡◌, ℕ, ◌≤◌, if◌then◌else◌, List, [], ◌∷◌, Option, Some, None, nat_lt}
 use Rattle.slab.specs.Slab.{Slab, HasRoomFor}
 use Rattle.cc_queue.specs.Chains.{call_at, links, IsChained}
 use Rattle.cc_queue.specs.declared.call.PendingCall.{PendingCall}

@@ -132,6 +132,7 @@ impl Queues {
     ) -> Option<CallId>
         ensures none { IfNone result (All (λ c. rank (B.means code.now) target.0 trans site env.now c ≡ None) self.now.calls) }
         ensures chosen { IfSome result (λ number. (c : PendingCall) × Contains self.now.calls c × (c.number ≡ number) × (is_chosen (B.means code.now) target.0 trans site env.now self.now.calls c ≡ true)) }
+        ensures found { IfSome result (λ number. (c : PendingCall) × (call_numbered self.now.calls number.0 ≡ Some c) × (c.number ≡ number) × (is_chosen (B.means code.now) target.0 trans site env.now self.now.calls c ≡ true)) }
     {
         let mut best = None;
         let mut at = first(&self.transactions, Chain::Transaction.lane(target, trans));
@@ -147,9 +148,9 @@ impl Queues {
         Some(number)
     }
 
-    /// Takes the call out and gives its arguments; none exactly where it is not there. All other calls stay.
-    pub fn remove(&mut self, call: CallId) -> Option<Cells>
-        ensures args { result ≡ option_map (λ c. c.args) (call_numbered self.old.calls call.0) }
+    /// Takes the call out and gives it; none exactly where it is not there. All other calls stay.
+    pub fn take(&mut self, call: CallId) -> Option<PendingCall>
+        ensures call { result ≡ call_numbered self.old.calls call.0 }
         ensures others { self.new ≡ record self.old { calls = filter (λ c. not (nat_eq c.number.0 call.0)) self.old.calls } }
     {
         let Some(slot) = self.slots.remove(&call.0) else {
@@ -174,7 +175,18 @@ impl Queues {
             slot,
         );
         let node = self.nodes.remove(slot);
-        Some(node.call.args)
+        Some(node.call)
+    }
+
+    /// Takes the call out and gives its arguments; none exactly where it is not there. All other calls stay.
+    pub fn remove(&mut self, call: CallId) -> Option<Cells>
+        ensures args { result ≡ option_map (λ c. c.args) (call_numbered self.old.calls call.0) }
+        ensures others { self.new ≡ record self.old { calls = filter (λ c. not (nat_eq c.number.0 call.0)) self.old.calls } }
+    {
+        let Some(taken) = self.take(call) else {
+            return None;
+        };
+        Some(taken.args)
     }
 
     /// Removes every call of the target. All other calls stay.
@@ -192,10 +204,12 @@ impl Queues {
         let _args = self.remove(call);
     }
 
-    // A call of the target; none exactly where it has none.
-    fn first_at(&self, target: Pid) -> Option<CallId>
+    /// The first call of the target in the order asked; none exactly where it has none.
+    pub fn first_at(&self, target: Pid) -> Option<CallId>
         ensures only { IfSome result (λ number. (c : PendingCall) → Contains self.now.calls c → c.number.0 ≡ number.0 → c.target.0 ≡ target.0) }
         ensures call { MatchOption result (All (λ c. nat_eq c.target.0 target.0 ≡ false) self.now.calls) (λ number. (c : PendingCall) × Contains self.now.calls c × (c.number ≡ number) × (c.target ≡ target)) }
+        ensures others { IfSome result (λ number. filter (λ d. not (nat_eq d.target.0 target.0)) (filter (λ d. not (nat_eq d.number.0 number.0)) self.now.calls) ≡ filter (λ d. not (nat_eq d.target.0 target.0)) self.now.calls) }
+        ensures first { IfSome result (λ number. (c : PendingCall) × (call_numbered self.now.calls number.0 ≡ Some c) × (c.number ≡ number) × (filter (λ d. nat_eq d.target.0 target.0) self.now.calls ≡ c ∷ filter (λ d. nat_eq d.target.0 target.0) (filter (λ d. not (nat_eq d.number.0 number.0)) self.now.calls))) }
     {
         let Some(slot) = first(&self.targets, Chain::Target.lane(target, 0)) else {
             return None;

@@ -1,7 +1,6 @@
-use Rattle.std.proofs.Common.{◌≡◌, ◌<◌, cond, Option, Some, sym, ap, ◌∙◌, subst}
-use Rattle.std.specs.HashMap.{HashMap, spare}
+use Rattle.std.proofs.Common.{◌<◌, cond, Some, sym, ap, ◌∙◌, subst}
+use Rattle.std.specs.HashMap.{spare}
 use Rattle.cc_queue.specs.Chains.{ends_at, has_last, is_lane}
-use Rattle.cc_queue.specs.declared.chains.Ends.{Ends}
 use Rattle.cc_queue.proofs.Slots.{on_ok}
 use Rattle.cc_queue.proofs.chains.put_last.Goals as goal
 

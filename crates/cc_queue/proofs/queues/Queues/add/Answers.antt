@@ -1,12 +1,9 @@
-use Rattle.std.proofs.Common.{◌≡◌, ◌≢◌, ℕ, ◌+◌, ◌-◌, ◌<◌, ◌≤◌, cond, eqb, ◌∷◌, ◌++◌, [], Option, Some, None, refl, sym, ap, ◌∙◌, subst, arith, rules}
+use Rattle.std.proofs.Common.{◌-◌, ◌<◌, ◌∷◌, ◌++◌, [], Option, refl, sym, ap, ◌∙◌, subst, arith, rules}
 use Rattle.std.specs.HashMap.{get, spare}
 use Rattle.std.specs.Option.{option_map}
 use Rattle.std.specs.Prelude.{nat_eq}
-use Rattle.slab.specs.Slab.{Slab}
 use Rattle.cc_queue.specs.Calls.{CallList}
 use Rattle.cc_queue.specs.Chains.{but, ends_at, link_of, links}
-use Rattle.cc_queue.specs.Kept.{held_calls, in_order}
-use Rattle.cc_queue.specs.declared.call.PendingCall.{PendingCall}
 use Rattle.cc_queue.specs.declared.node.Chain.TheVariants.{Transaction, Target}
 use Rattle.cc_queue.specs.declared.node.Neighbours.{Neighbours}
 use Rattle.cc_queue.specs.declared.node.Node.{Node}

@@ -2,7 +2,8 @@ use Rattle.std.proofs.Common.{◌≡◌, ℕ, ℤ, ◌+◌, ◌<◌, true, false
 use Rattle.std.specs.List.{list_all}
 use Rattle.std.specs.Option.{option_map, option_map_or}
 use Rattle.cc_base.specs.Meaning.{Meaning}
-use Rattle.cc_queue.specs.Calls.{CallList}
+use Rattle.cc_base.specs.declared.names.CallId.{CallId}
+use Rattle.cc_queue.specs.Calls.{CallList, call_numbered}
 use Rattle.cc_queue.specs.Chains.{IsNext, ends_at, links, places}
 use Rattle.cc_queue.specs.Choice.{goes_before, is_chosen, rank}
 use Rattle.cc_queue.specs.Kept.{held_calls, in_order}
@@ -10,8 +11,9 @@ use Rattle.cc_queue.specs.declared.call.PendingCall.{PendingCall}
 use Rattle.cc_queue.specs.declared.chains.Ends.{Ends}
 use Rattle.cc_queue.specs.declared.node.Chain.TheVariants.{Transaction}
 use Rattle.cc_queue.proofs.Best.{IsBestBelow, LeadsBelow, all_none, best_more, falls, here, leads_all, list_all_from_among, to_go}
-use Rattle.cc_queue.proofs.Ordered.{all_from_among, contains_from_among}
-use Rattle.cc_queue.proofs.Views.{among_slot}
+use Rattle.cc_queue.proofs.Keeping.{find_present}
+use Rattle.cc_queue.proofs.Ordered.{all_from_among, among_contained, contains_from_among}
+use Rattle.cc_queue.proofs.Views.{among_slot, rising, slots_apart}
 use Rattle.cc_queue.proofs.queues.Queues.best.Goals as goal
 
 pub loop-at-init : goal.loop-at-init
@@ -91,3 +93,13 @@ returns-clause-chosen g c =
       b.named,
       subst (λ (v : CallList). is_chosen m c.args.target.0 c.args.trans c.args.site c.args.env.now v.calls b.call ≡ true) c.self.view_is chosen,
     )
+
+pub returns-clause-found : goal.returns-clause-found
+returns-clause-found g c =
+    let i = c.self.inside in
+    let view : List PendingCall = in_order (held_calls i.nodes.slots) in
+    let chosen = returns-clause-chosen g c in
+    let among = among_contained chosen.0 view (subst (λ (v : CallList). Contains v.calls chosen.0) (sym c.self.view_is) chosen.1) in
+    let rises = rising i.nodes.slots (slots_apart i.nodes (ends_at i.transactions) c.self.invariant.by_transaction) in
+    let found = subst (λ (v : CallList). call_numbered v.calls chosen.0.number.0 ≡ Some chosen.0) c.self.view_is (find_present view chosen.0 rises among) in
+    (chosen.0, ap (λ (n : CallId). call_numbered c.args.self.now.calls n.0) (sym chosen.2) ∙ found, chosen.2, chosen.3)

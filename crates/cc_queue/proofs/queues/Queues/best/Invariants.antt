@@ -1,4 +1,3 @@
-use Rattle.std.proofs.Common.{◌≡◌}
 use Rattle.cc_queue.specs.Choice.{rank}
 use Rattle.cc_queue.proofs.Best.{BestSoFar, to_go}
 use Rattle.cc_queue.proofs.queues.Queues.best.Given as goal

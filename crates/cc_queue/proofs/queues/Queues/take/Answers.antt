@@ -1,8 +1,7 @@
-use Rattle.std.proofs.Common.{◌≡◌, ℕ, ◌+◌, ◌≤◌, cond, eqb, not, filter, Option, Some, None, refl, sym, ap, ◌∙◌, subst, arith, rules}
-use Rattle.std.specs.HashMap.{get, spare}
+use Rattle.std.proofs.Common.{◌≡◌, eqb, not, filter, Option, Some, None, refl, sym, ap, ◌∙◌, arith}
+use Rattle.std.specs.HashMap.{get}
 use Rattle.std.specs.Option.{option_map}
 use Rattle.std.specs.Prelude.{nat_eq}
-use Rattle.slab.specs.Slab.{Slab, get as node_at}
 use Rattle.cc_queue.specs.Calls.{CallList, call_numbered}
 use Rattle.cc_queue.specs.Chains.{but, call_at, ends_at, link_of, links}
 use Rattle.cc_queue.specs.Kept.{held_calls, in_order}
@@ -11,15 +10,14 @@ use Rattle.cc_queue.specs.declared.node.Chain.TheVariants.{Transaction, Target}
 use Rattle.cc_queue.specs.declared.node.Node.{Node}
 use Rattle.cc_queue.proofs.Keeping.{absent_number, chained_links, filter_absent, find_absent, find_present, kept_removed, links_left, view_left}
 use Rattle.cc_queue.proofs.Views.{among_slot, rising, same_call, slots_apart}
-use Rattle.cc_queue.proofs.queues.Queues.remove.Goals as goal
+use Rattle.cc_queue.proofs.queues.Queues.take.Goals as goal
 
-pub returns-in_default-clause-args : goal.returns-in_default-clause-args
-returns-in_default-clause-args c =
+pub returns-in_default-clause-call : goal.returns-in_default-clause-call
+returns-in_default-clause-call c =
     let i = c.self.inside in
     let none : get nat_eq i.slots c.args.call.0 ≡ None = sym c.remove.ensures.value ∙ c.in_default.is in
     let absent = absent_number i.nodes (get nat_eq i.slots) _ _ _ _ _ _ c.args.call.0 c.self.invariant none in
-    ap (λ (o : Option PendingCall). option_map (λ (d : PendingCall). d.args) o)
-    (sym (find_absent _ c.args.call.0 absent) ∙ ap (λ (v : CallList). call_numbered v.calls c.args.call.0) c.self.view_is)
+    sym (find_absent _ c.args.call.0 absent) ∙ ap (λ (v : CallList). call_numbered v.calls c.args.call.0) c.self.view_is
 
 pub returns-in_default-clause-others : goal.returns-in_default-clause-others
 returns-in_default-clause-others c =
@@ -61,8 +59,8 @@ invariant_of-self-2 c =
     (omega (arith, k.room, r.len, r.capacity, b.standing.count, a.standing.count, b.standing.capacity, a.standing.capacity))
     c.remove.ensures.spare a.spare b.spare
 
-pub returns-clause-args : goal.returns-clause-args
-returns-clause-args c =
+pub returns-clause-call : goal.returns-clause-call
+returns-clause-call c =
     let i = c.self.inside in
     let k = c.self.invariant in
     let slot = c.in-Some.slot in
@@ -74,9 +72,10 @@ returns-clause-args c =
     in
     let same = same_call _ _ _ taken asked.1 in
     let found = find_present _ asked.0 (rising i.nodes.slots (slots_apart i.nodes _ k.by_transaction)) (among_slot i.nodes.slots asked.0 slot asked.1) in
-    ap (λ (d : PendingCall). Some d.args) same
-    ∙ ap (λ (o : Option PendingCall). option_map (λ (d : PendingCall). d.args) o)
-    (sym found ∙ ap (λ n. call_numbered (in_order (held_calls i.nodes.slots)) n) asked.2 ∙ ap (λ (v : CallList). call_numbered v.calls c.args.call.0) c.self.view_is)
+    ap (λ (d : PendingCall). Some d) same
+    ∙ sym found
+    ∙ ap (λ n. call_numbered (in_order (held_calls i.nodes.slots)) n) asked.2
+    ∙ ap (λ (v : CallList). call_numbered v.calls c.args.call.0) c.self.view_is
 
 pub returns-clause-others : goal.returns-clause-others
 returns-clause-others c =
