@@ -8,7 +8,7 @@ use Rattle.std.proofs.lemmas.List.{get_or-set_same, get_or-set_other, get_or_pas
 use Rattle.std.proofs.lemmas.List.Sums.{count_by-le-length, get_or-le-sum_by, sum_by-cons, sum_by-set, sum_by_push}
 use Rattle.cc_base.specs.declared.request.Grant.{Grant}
 use Rattle.cc_kernel.proofs.Simulates.{same-or-not}
-use Rattle.cc_kernel.specs.Counted.{AreCounted, AreKept, AreListed, Agrees, Covers, HasMoved, IsWaiting, how_many, may_terminate, one_where}
+use Rattle.cc_kernel.specs.Counted.{AreCounted, AreKept, AreListed, Agrees, Covers, HasMoved, IsWaiting, all_may_end, how_many, may_terminate, one_where}
 use Rattle.cc_kernel.specs.Seats.{is_ready, seat_at, vacant, whereabouts_ready, with_out, with_ready, woken}
 use Rattle.cc_kernel.specs.declared.counts.Counts.{Counts}
 use Rattle.cc_kernel.specs.declared.seat.Seat.{Seat}
@@ -17,7 +17,7 @@ use Rattle.cc_kernel.specs.declared.seat.Whereabouts.TheVariants.{Ready, Out, Wa
 use Rattle.cc_base.specs.Limits.{most_processes}
 use Rattle.cc_rules.specs.State.{is_faulted, is_over, is_running}
 use Rattle.cc_rules.specs.declared.process.ProcessStanding.{ProcessStanding}
-use Rattle.cc_rules.specs.declared.process.ProcessStanding.TheVariants.{Running}
+use Rattle.cc_rules.specs.declared.process.ProcessStanding.TheVariants.{Running, AtSelect, AtDelay, AtCall, Ended, Faulted}
 
 same-number : (n : ℕ) → nat_eq n n ≡ true
 same-number n = search rules
@@ -46,6 +46,12 @@ ready-from : (b : Bool) (n : ℕ) → 1 + n ≡ one_where b → b ≡ true
 ready-from true n h = refl
 ready-from false n h = absurd (omega (arith, h))
 
+pub number-same : (a b : ℕ) → a ≡ b → nat_eq a b ≡ true
+number-same a b e = ap (nat_eq a) (sym e) ∙ same-number a
+
+pub number-other : (a b : ℕ) → a ≢ b → nat_eq a b ≡ false
+number-other a b ne = other-number a b ne
+
 -- a number more at the end
 count-push : (i at : ℕ) (ready : List ℕ) → count_by (nat_eq i) (ready ++ at ∷ []) ≡ count_by (nat_eq i) ready + one_where (nat_eq i at)
 count-push i at ready = sum_by_push (λ n. cond (nat_eq i n) 1 0) ready at
@@ -53,6 +59,23 @@ count-push i at ready = sum_by_push (λ n. cond (nat_eq i n) 1 0) ready at
 -- and a number less at the front
 count-front : (i at : ℕ) (ready : List ℕ) → count_by (nat_eq i) (at ∷ ready) ≡ one_where (nat_eq i at) + count_by (nat_eq i) ready
 count-front i at ready = sum_by-cons (λ n. cond (nat_eq i n) 1 0) at ready
+
+-- whoever has `terminate` among its alternatives waits
+pub terminate-waits : (standing : ProcessStanding) → may_terminate standing ≡ true → IsWaiting standing
+terminate-waits Running h = cc
+terminate-waits (AtSelect alts asked) h = (refl, refl)
+terminate-waits (AtDelay deadline) h = cc
+terminate-waits (AtCall call) h = cc
+terminate-waits Ended h = cc
+terminate-waits (Faulted kind) h = cc
+
+not-both : (standing : ProcessStanding) → one_where (is_over standing || may_terminate standing) ≡ one_where (is_over standing) + one_where (may_terminate standing)
+not-both Running = refl
+not-both (AtSelect alts asked) = sym (zero-plus (one_where (may_terminate (AtSelect alts asked))))
+not-both (AtDelay deadline) = refl
+not-both (AtCall call) = refl
+not-both Ended = refl
+not-both (Faulted kind) = refl
 
 module _ {P : Type 0} where
   agrees-not-ready : (x : Whereabouts P) (standing : ProcessStanding) → Agrees standing x → is_running standing ≡ false → whereabouts_ready x ≡ false
@@ -85,19 +108,19 @@ module _ {P : Type 0} where
   pub woken-agrees : (seat : Seat P) (grant : Grant) → Agrees seat.standing seat.whereabouts → IsWaiting seat.standing → Agrees (woken seat grant).standing (woken seat grant).whereabouts
   woken-agrees seat grant h w = (waits-woken seat.whereabouts seat.standing grant h w).1
 
-  -- what holds of each seat, where one is changed
-  each-set : (F : Seat P → Type 0) (seats : List (Seat P)) (at : ℕ) (seat : Seat P) → F seat → ((i : ℕ) → F (seat_at seats i)) → (i : ℕ) → F (seat_at (set seats at seat) i)
-  each-set F [] at seat h all i = all i
-  each-set F (x ∷ seats) zero seat h all zero = h
-  each-set F (x ∷ seats) zero seat h all (suc i) = all (suc i)
-  each-set F (x ∷ seats) (suc at) seat h all zero = all zero
-  each-set F (x ∷ seats) (suc at) seat h all (suc i) = each-set F seats at seat h (λ k. all (suc k)) i
+  -- what holds of each seat, by its number, where one is changed
+  pub each-of-set : (F : ℕ → Seat P → Type 0) (seats : List (Seat P)) (at : ℕ) (seat : Seat P) → F at seat → ((i : ℕ) → F i (seat_at seats i)) → (i : ℕ) → F i (seat_at (set seats at seat) i)
+  each-of-set F [] at seat h all i = all i
+  each-of-set F (x ∷ seats) zero seat h all zero = h
+  each-of-set F (x ∷ seats) zero seat h all (suc i) = all (suc i)
+  each-of-set F (x ∷ seats) (suc at) seat h all zero = all zero
+  each-of-set F (x ∷ seats) (suc at) seat h all (suc i) = each-of-set (λ k. F (suc k)) seats at seat h (λ k. all (suc k)) i
 
-  each-push : (F : Seat P → Type 0) (seats : List (Seat P)) (seat : Seat P) → F seat → ((i : ℕ) → F (seat_at seats i)) → (i : ℕ) → F (seat_at (seats ++ seat ∷ []) i)
-  each-push F [] seat h all zero = h
-  each-push F [] seat h all (suc i) = all (suc i)
-  each-push F (x ∷ seats) seat h all zero = all zero
-  each-push F (x ∷ seats) seat h all (suc i) = each-push F seats seat h (λ k. all (suc k)) i
+  pub each-of-push : (F : ℕ → Seat P → Type 0) (seats : List (Seat P)) (seat : Seat P) → ((i : ℕ) → F i seat) → ((i : ℕ) → F i (seat_at seats i)) → (i : ℕ) → F i (seat_at (seats ++ seat ∷ []) i)
+  each-of-push F [] seat h all zero = h 0
+  each-of-push F [] seat h all (suc i) = all (suc i)
+  each-of-push F (x ∷ seats) seat h all zero = all zero
+  each-of-push F (x ∷ seats) seat h all (suc i) = each-of-push (λ k. F (suc k)) seats seat (λ k. h (suc k)) (λ k. all (suc k)) i
 
   count-seat : (test : Seat P → Bool) (seats : List (Seat P)) (at : ℕ) (seat : Seat P) → at < length seats → count_by test (set seats at seat) + one_where (test (seat_at seats at)) ≡ count_by test seats + one_where (test seat)
   count-seat test seats at seat lt = sum_by-set (λ x. cond (test x) 1 0) seats at seat vacant lt
@@ -199,7 +222,7 @@ module _ {P : Type 0} where
   kept-set seats counts counts' ready ready' spare seats_room ready_room at seat k lt idle agrees moved same =
       record {
         few = rw length-set k.few;
-        agree = each-set (λ seat. Agrees seat.standing seat.whereabouts) seats at seat agrees k.agree;
+        agree = each-of-set (λ i seat. Agrees seat.standing seat.whereabouts) seats at seat agrees k.agree;
         counted = counted-set seats counts counts' at seat lt k.counted moved;
         listed = rw same (listed-if seats ready at seat (is_ready seat) lt idle refl k.listed);
         room = rw length-set k.room;
@@ -352,7 +375,7 @@ module _ {P : Type 0} where
       record {
         few = rw length-set k.few;
         agree =
-            each-set (λ seat. Agrees seat.standing seat.whereabouts) seats at (with_out (seat_at seats at))
+            each-of-set (λ i seat. Agrees seat.standing seat.whereabouts) seats at (with_out (seat_at seats at))
             (ready-agrees (seat_at seats at).whereabouts (seat_at seats at).standing (k.agree at) first.0) k.agree;
         counted =
             record {
@@ -429,7 +452,7 @@ module _ {P : Type 0} where
       rw same
       (record {
         few = omega (arith, l, few);
-        agree = each-push (λ seat. Agrees seat.standing seat.whereabouts) seats (with_ready process grant) refl k.agree;
+        agree = each-of-push (λ i seat. Agrees seat.standing seat.whereabouts) seats (with_ready process grant) (λ i. refl) k.agree;
         counted =
             record {
               running = ap (λ n. n + 1) k.counted.running ∙ sym (more-one is_running seats (with_ready process grant) refl);
@@ -448,3 +471,27 @@ module _ {P : Type 0} where
   ready-at-hand Out h none = cc
   ready-at-hand (Waits process) h none = cc
   ready-at-hand Left h none = cc
+
+  -- a process is over or has `terminate` among its alternatives, and not both
+  pub count-ending : (seats : List (Seat P)) → count_by (λ seat. is_over seat.standing || may_terminate seat.standing) seats ≡ how_many is_over seats + how_many may_terminate seats
+  count-ending [] = refl
+  count-ending (seat ∷ seats) =
+      let c = count-cons (λ seat. is_over seat.standing || may_terminate seat.standing) seat seats in
+      let a = count-cons (λ seat. is_over seat.standing) seat seats in
+      let b = count-cons (λ seat. may_terminate seat.standing) seat seats in
+      let h = count-ending seats in
+      let n = not-both seat.standing in
+      omega (arith, c, a, b, h, n)
+
+  pub ending-few : (seats : List (Seat P)) → how_many is_over seats + how_many may_terminate seats ≤ length seats
+  ending-few seats = let c = count-ending seats in let l = count_by-le-length (λ (seat : Seat P). is_over seat.standing || may_terminate seat.standing) seats in omega (arith, c, l)
+
+  -- whether all may end, as the counts tell it
+  pub all-ending :
+      (seats : List (Seat P)) (over terminating long : ℕ)
+      → over ≡ how_many is_over seats
+      → terminating ≡ how_many may_terminate seats
+      → long ≡ length seats
+      → (nat_eq (over + terminating) long && nat_lt 0 terminating) ≡ all_may_end seats
+  all-ending seats over terminating long e h l =
+      rw (e, h, l, ← count-ending, all-pass (λ (seat : Seat P). is_over seat.standing || may_terminate seat.standing) seats, some-pass (λ (seat : Seat P). may_terminate seat.standing) seats) refl

@@ -10,6 +10,7 @@ use Rattle.cc_base.specs.declared.request.Grant.{Grant}
 use Rattle.cc_kernel.proofs.Plain.{false-from, not-unsettled, over-quiet}
 use Rattle.cc_kernel.proofs.Seated.{Seated-length, out-running, plain-at, same-standing}
 use Rattle.cc_kernel.specs.Choice.{after_end, due_in, seat_may_end, seat_waits, waits_so}
+use Rattle.cc_kernel.specs.Counted.{ended_seat, may_terminate}
 use Rattle.cc_kernel.specs.Settles.{GoesOn, IsCalm, Settles}
 use Rattle.cc_kernel.specs.Store.{Contents, IsState, SeatFits, Seated, ended_contents}
 use Rattle.cc_kernel.specs.Seats.{is_out, is_served_by, seat_at, served_call, vacant, with_left}
@@ -47,26 +48,26 @@ some-same f g h n (x ∷ xs) [] l = absurd (omega (arith, l))
 some-same f g h n (x ∷ xs) (y ∷ ys) l = rw (h n, some-same f g h (n + 1) xs ys (omega (arith, l))) refl
 
 -- one seat of a list that is changed in place
-module _ {P : Type 0} (m : Meaning) (calls : List TransactionCall) (seats : List (Seat P)) where
+module _ {P : Type 0} (seats : List (Seat P)) where
   pub end-step :
       (now : List (Seat P)) (i : ℕ)
       → i < length seats
-      → now ≡ walked vacant (after_end m seats calls) 0 i seats
-      → (if seat_waits m now calls i then set now i (with_left Ended) else now) ≡ walked vacant (after_end m seats calls) 0 (i + 1) seats
+      → now ≡ walked vacant ended_seat 0 i seats
+      → (if may_terminate (seat_at now i).standing then set now i (with_left Ended) else now) ≡ walked vacant ended_seat 0 (i + 1) seats
   end-step now i lt same =
-      ap (λ xs. if seat_waits m xs calls i then set xs i (with_left Ended) else xs) same
-      ∙ ap (λ (st : Seat P). if waits_so m i st.standing calls then set (walked vacant (after_end m seats calls) 0 i seats) i (with_left Ended) else walked vacant (after_end m seats calls) 0 i seats) (walked-at vacant (after_end m seats calls) i seats lt)
-      ∙ step (seat_waits m seats calls i) refl
+      ap (λ xs. if may_terminate (seat_at xs i).standing then set xs i (with_left Ended) else xs) same
+      ∙ ap (λ (st : Seat P). if may_terminate st.standing then set (walked vacant ended_seat 0 i seats) i (with_left Ended) else walked vacant ended_seat 0 i seats) (walked-at vacant ended_seat i seats lt)
+      ∙ step (may_terminate (seat_at seats i).standing) refl
     where
       step :
           (b : Bool)
-          → seat_waits m seats calls i ≡ b
-          → (if b then set (walked vacant (after_end m seats calls) 0 i seats) i (with_left Ended) else walked vacant (after_end m seats calls) 0 i seats)
-          ≡ walked vacant (after_end m seats calls) 0 (i + 1) seats
+          → may_terminate (seat_at seats i).standing ≡ b
+          → (if b then set (walked vacant ended_seat 0 i seats) i (with_left Ended) else walked vacant ended_seat 0 i seats)
+          ≡ walked vacant ended_seat 0 (i + 1) seats
       step true e =
-          ap (set (walked vacant (after_end m seats calls) 0 i seats) i) (sym (ap (λ b. if b then with_left Ended else seat_at seats i) e))
-          ∙ walked-set vacant (after_end m seats calls) i seats lt
-      step false e = walked-keep vacant (after_end m seats calls) i seats lt (ap (λ b. if b then with_left Ended else seat_at seats i) e)
+          ap (set (walked vacant ended_seat 0 i seats) i) (sym (ap (λ b. if b then with_left Ended else seat_at seats i) e))
+          ∙ walked-set vacant ended_seat i seats lt
+      step false e = walked-keep vacant ended_seat i seats lt (ap (λ b. if b then with_left Ended else seat_at seats i) e)
 
 module _ {P : Type 0} (m : Meaning) (located : P → ℕ → List ℤ → List Grant → Type 0) where
   -- who waits at `terminate`, as the seats tell it

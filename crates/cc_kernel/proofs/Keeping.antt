@@ -8,6 +8,8 @@ use Rattle.cc_base.specs.Meaning.{Meaning}
 use Rattle.cc_base.specs.declared.request.Grant.{Grant}
 use Rattle.cc_kernel.proofs.Seated.{Seated-at, Seated-out, ready-at}
 use Rattle.cc_kernel.specs.Invariant.{IsKept, IsReadyFor}
+use Rattle.cc_kernel.proofs.Resting.{rest-out}
+use Rattle.cc_kernel.specs.Resting.{AllRest, RestsSo}
 use Rattle.cc_kernel.specs.Store.{IsReady, IsState, Contents, Seated, contents}
 use Rattle.cc_kernel.specs.Lists.{CallList, SeatList, ServedList}
 use Rattle.cc_rules.specs.Lists.{FaultList}
@@ -41,15 +43,14 @@ use Rattle.cc_rules.specs.declared.event.Event.TheVariants.{Ask}
 module _ {P : Type 0} (m : Meaning) (located : P → ℕ → List ℤ → List Grant → Type 0) where
   ready-seats :
       (store : Store P) (room : ℕ) (x : Need P) (seats : SeatList P)
-      → length seats.items ≡ length store.seats.items
       → seats.spare ≡ store.seats.spare
       → IsReadyFor m located store room x
       → IsReadyFor m located (record store { seats = seats }) room x
-  ready-seats store room need.Nothing seats l e h = tt
-  ready-seats store room need.Step seats l e h = (rw l h.0, h.1, h.2, rw e h.3)
-  ready-seats store room (need.Making kind args process) seats l e h = ((rw l h.0.0, h.0.1, h.0.2, rw e h.0.3), h.1)
-  ready-seats store room (need.Answering value zeros) seats l e h = ((rw l h.0.0, h.0.1, h.0.2, rw e h.0.3), h.1)
-  ready-seats store room need.Moment seats l e h = (rw l h.0, h.1, h.2, rw e h.3)
+  ready-seats store room need.Nothing seats e h = tt
+  ready-seats store room need.Step seats e h = (h.0, h.1, h.2, rw e h.3)
+  ready-seats store room (need.Making kind args process) seats e h = ((h.0.0, h.0.1, h.0.2, rw e h.0.3), h.1)
+  ready-seats store room (need.Answering value zeros) seats e h = ((h.0.0, h.0.1, h.0.2, rw e h.0.3), h.1)
+  ready-seats store room need.Moment seats e h = (h.0, h.1, h.2, rw e h.3)
 
   -- a process that is ready goes out
   state-out :
@@ -86,11 +87,12 @@ module _ {P : Type 0} (m : Meaning) (located : P → ℕ → List ℤ → List G
         runs = k.runs;
         settled = k.settled;
         state = rw same (state-out (state_after m store.input events) (contents store) i process grant k.state lt e);
+        rest = rw same (rest-out m (contents store) i k.rest);
         quiet = k.quiet;
         spent_turns = k.spent_turns;
         within = k.within;
         low = k.low;
-        ready = ready-seats store room x seats (ap length same ∙ length-set store.seats.items i (with_out (seat_at store.seats.items i))) spare k.ready;
+        ready = ready-seats store room x seats spare k.ready;
         unlisted = k.unlisted;
         listable = k.listable;
       }
@@ -125,6 +127,7 @@ module _ {P : Type 0} (m : Meaning) (located : P → ℕ → List ℤ → List G
               rising = omega arith;
               untimed = tt;
             };
+        rest = rw (here, none) first-rests;
         quiet = refl;
         spent_turns = refl;
         within = omega arith;
@@ -134,6 +137,10 @@ module _ {P : Type 0} (m : Meaning) (located : P → ℕ → List ℤ → List G
         listable = listable;
       })
     where
+      first-rests : (i : ℕ) → RestsSo m i (seat_at (with_ready process Go ∷ []) i).standing []
+      first-rests zero = (refl, refl)
+      first-rests (suc i) = (refl, refl)
+
       first-serves : (i : ℕ) → map served_call (process_at (first_state input).processes i).serving ≡ []
       first-serves zero = refl
       first-serves (suc i) = refl
@@ -184,9 +191,10 @@ module _ {P : Type 0} (m : Meaning) (located : P → ℕ → List ℤ → List G
       → store'.drawn ≡ asked.drawn
       → store'.input ≡ store.input
       → IsState located (effect m (state_after m store.input events) p r) (contents asked)
+      → AllRest m (contents store')
       → ((s : State) → IsState located s (contents asked) → Settles m located s (events ++ Ask p (word_of r) ∷ []) more (contents store'))
       → IsKept m located allowed (spent + 1) more room' store' need.Nothing faults
-  kept-commit allowed spent events more room room' store asked store' x faults p r k running asks left low same-drawn same-input st settles =
+  kept-commit allowed spent events more room room' store asked store' x faults p r k running asks left low same-drawn same-input st rest settles =
       let s = state_after m store.input events in
       let first = first_state store.input in
       let e : Event = Ask p (word_of r) in
@@ -213,6 +221,7 @@ module _ {P : Type 0} (m : Meaning) (located : P → ℕ → List ℤ → List G
         state =
             (let F : List ℕ → Type 0 = λ input. IsState located (state_after m input more) (contents store') in
             subst F (sym same-input) (rw (whole, last) done.goes_on.state));
+        rest = rest;
         quiet =
             (let F : List ℕ → Type 0 = λ input. is_unsettled m (state_after m input more) ≡ false in
             subst F (sym same-input) (rw (whole, last) quiet));

@@ -9,6 +9,8 @@ pub mod Chosen
 pub mod Simulates
 pub mod Plain
 pub mod Counted
+pub mod Resting
+pub mod Asked
 pub mod Known
 pub mod Settling
 pub mod Ending

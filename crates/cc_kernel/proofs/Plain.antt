@@ -1,6 +1,6 @@
 -- Where no deadline stands, a state is settled in which no call and no immediate alternative can be taken and the collective
 -- end is not due.
-use Rattle.std.proofs.Common.{◌≡◌, ℕ, suc, ℤ, Bool, true, false, ◌&&◌, ◌||◌, not, List, [], ◌∷◌, length, ◌<◌, get_or, refl, sym, ap, ◌∙◌, nat_eq, Option, Some, None}
+use Rattle.std.proofs.Common.{◌≡◌, ℕ, suc, ℤ, Bool, true, false, ◌&&◌, ◌||◌, not, List, [], ◌∷◌, length, ◌<◌, get_or, refl, ap, ◌∙◌, nat_eq, Option, Some, None}
 use Rattle.std.specs.Prelude.{is_some, if◌then◌else◌, nat_le}
 use Rattle.std.specs.List.{enumerate_from, list_any}
 use Rattle.std.specs.Option.{option_map_or}
@@ -9,13 +9,9 @@ use Rattle.std.proofs.lemmas.List.Folds.{list_any_at}
 use Rattle.cc_base.specs.Meaning.{Meaning}
 use Rattle.cc_base.specs.declared.alternatives.Alt.{Alt}
 use Rattle.cc_base.specs.declared.alternatives.Alt.TheVariants as alt
-use Rattle.cc_base.specs.declared.request.Grant.{Grant}
-use Rattle.cc_kernel.proofs.Seated.{same-standing}
-use Rattle.cc_kernel.specs.Choice.{goes_at_once, is_takable, some_takable}
 use Rattle.cc_kernel.specs.Settles.{IsCalm}
-use Rattle.cc_kernel.specs.Store.{AllUntimed, IsUntimed, IsPlain, IsState, Contents}
+use Rattle.cc_kernel.specs.Store.{AllUntimed, IsUntimed, IsPlain}
 use Rattle.cc_kernel.specs.Untimed.{IsNoDelay, NoDelays}
-use Rattle.cc_kernel.specs.Seats.{seat_at}
 use Rattle.cc_base.specs.Alternatives.{numbered}
 use Rattle.cc_rules.proofs.Bools.{both-ways}
 use Rattle.cc_rules.proofs.CollectiveEnd.{every-at, over_or_waits}
@@ -191,38 +187,6 @@ takes-eligible m s p i j call d lt e h =
     weaker : (o : Option Alt) → option_map_or (λ a. is_chosen m p a s.pending call) o false ≡ true → option_map_or (λ a. list_any (is_eligible m p a) s.pending) o false ≡ true
     weaker None h = cc
     weaker (Some a) h = list_any_at (is_eligible m p a) s.pending j d lt (ap (is_eligible m p a) e ∙ some-is (rank m p a call) _ h)
-
-any-agrees : {X : Type 0} (p q : X → Bool) (xs : List X) → ((x : X) → p x ≡ q x) → list_any p xs ≡ list_any q xs
-any-agrees p q [] h = refl
-any-agrees p q (x ∷ xs) h = rw (h x, any-agrees p q xs h) refl
-
--- as the seats tell it
-pub quiet-contents :
-    {P : Type 0} (m : Meaning) (located : P → ℕ → List ℤ → List Grant → Type 0) (s : State) (x : Contents P)
-    → IsState located s x
-    → some_takable m x.seats x.pending ≡ false
-    → list_any (is_acceptable m s) s.pending ≡ false
-quiet-contents m located s x k none =
-    any-agrees (λ call. is_takable m (process_at s.processes call.target.0).standing s.pending call) (λ call. is_takable m (seat_at x.seats call.target.0).standing s.pending call) s.pending
-    (λ call. ap (λ st. is_takable m st s.pending call) (sym (same-standing located s.processes x.seats call.target.0 k.seated)))
-    ∙ ap (λ calls. list_any (λ call. is_takable m (seat_at x.seats call.target.0).standing calls call) calls) (sym k.pending)
-    ∙ none
-
--- no call and no immediate alternative can be taken, as the seats tell it
-pub calm-contents :
-    {P : Type 0} (m : Meaning) (located : P → ℕ → List ℤ → List Grant → Type 0) (s : State) (x : Contents P)
-    → IsState located s x
-    → some_takable m x.seats x.pending ≡ false
-    → ((p i : ℕ) → goes_at_once m p (seat_at x.seats p).standing x.pending i ≡ false)
-    → IsCalm m s
-calm-contents m located s x k none none' =
-    record {
-      no_call = quiet-contents m located s x k none;
-      none_at_once = λ p i.
-          ap (λ st. goes_at_once m p st s.pending i) (sym (same-standing located s.processes x.seats p k.seated))
-          ∙ ap (λ calls. goes_at_once m p (seat_at x.seats p).standing calls i) (sym k.pending)
-          ∙ none' p i;
-    }
 
 -- a settled state by its test
 pub not-unsettled :

@@ -1,5 +1,5 @@
 -- The kernel keeps its run where it is prepared.
-use Rattle.std.proofs.Common.{◌≡◌, ℕ, ◌≤◌, ℤ, List, length, sym, ap, ◌∙◌, subst, arith, true, false, Option, Some, None}
+use Rattle.std.proofs.Common.{◌≡◌, ℕ, ℤ, List, length, sym, ap, ◌∙◌, subst, arith, true, false, Option, Some, None}
 use Rattle.std.specs.Prelude.{IfSome, map}
 use Rattle.cc_base.specs.Grants.{HasKind}
 use Rattle.cc_base.specs.Meaning.{Meaning}
@@ -11,7 +11,7 @@ use Rattle.cc_base.specs.declared.request.Request.TheVariants.{Create}
 use Rattle.cc_base.specs.declared.request.Request.TheVariants as request
 use Rattle.cc_kernel.proofs.Outs.{out-at}
 use Rattle.cc_kernel.proofs.Seated.{Seated-at, out-running}
-use Rattle.cc_kernel.proofs.Serving.{Rising-length}
+use Rattle.cc_kernel.specs.Resting.{AllRest}
 use Rattle.cc_kernel.specs.Contract.{AsksNow, IsEnoughFor, Nothing, is_out_in}
 use Rattle.cc_kernel.specs.Invariant.{HasRoom, IsKept, IsReadyFor, prepared_for}
 use Rattle.cc_kernel.specs.Store.{IsState, Contents, Seated, contents}
@@ -32,10 +32,6 @@ where-some F G None f h = h
 where-some F G (Some x) f h = f x h
 
 module _ {P : Type 0} (m : Meaning) (located : P → ℕ → List ℤ → List Grant → Type 0) where
-  -- there are no more pending calls than numbers were drawn
-  pub few-pending : (s : State) (x : Contents P) → IsState located s x → length x.pending ≤ x.drawn
-  few-pending s x k = let h = Rising-length 0 s.pending s.drawn k.rising in rw (k.pending, k.drawn) (omega (arith, h))
-
   -- a process that is out is running
   pub out-runs :
       (s : State) (seats : List (Seat P)) (p : ℕ)
@@ -76,6 +72,7 @@ module _ {P : Type 0} (m : Meaning) (located : P → ℕ → List ℤ → List G
             (let F : List ℕ → Type 0 = λ input. IsState located (state_after m input events) (contents store') in
             let G : Contents P → Type 0 = λ y. IsState located (state_after m store.input events) y in
             subst F (sym same-input) (subst G (sym same) k.state));
+        rest = (let G : Contents P → Type 0 = λ y. AllRest m y in subst G (sym same) k.rest);
         quiet =
             (let F : List ℕ → Type 0 = λ input. is_unsettled m (state_after m input events) ≡ false in
             subst F (sym same-input) k.quiet);

@@ -1,8 +1,8 @@
 -- What each request does to what is kept.
-use Rattle.std.proofs.Common.{◌≡◌, ℕ, zero, suc, ◌+◌, ◌<◌, ◌≤◌, ℤ, Bool, true, false, not, List, [], ◌∷◌, ◌++◌, length, set, map, refl, sym, ap, ◌∙◌, subst, arith, length-append}
+use Rattle.std.proofs.Common.{◌≡◌, ℕ, zero, suc, ◌<◌, ◌≤◌, ℤ, Bool, true, false, not, List, [], ◌∷◌, ◌++◌, length, set, map, refl, sym, ap, ◌∙◌, subst, arith}
 use Rattle.std.specs.Prelude.{All, if◌then◌else◌, nat_lt, pos, replicate}
 use Rattle.std.proofs.lemmas.Bool.Decides.{nat_tests}
-use Rattle.std.proofs.lemmas.List.{length-set, map-set}
+use Rattle.std.proofs.lemmas.List.{map-set}
 use Rattle.cc_base.specs.Meaning.{Meaning}
 use Rattle.cc_base.specs.declared.alternatives.Alt.{Alt}
 use Rattle.cc_base.specs.declared.names.FaultKind.TheVariants.{TooMany}
@@ -10,14 +10,14 @@ use Rattle.cc_base.specs.declared.names.Pid.{Pid}
 use Rattle.cc_base.specs.declared.request.Grant.{Grant}
 use Rattle.cc_base.specs.declared.request.Grant.TheVariants.{Go, Gone, Made}
 use Rattle.cc_base.specs.declared.request.Request.TheVariants.{Call, Create, Send}
-use Rattle.cc_kernel.proofs.Outs.{length-gone, outs-gone}
+use Rattle.cc_kernel.proofs.Outs.{outs-gone}
 use Rattle.cc_kernel.proofs.Seated.{Seated-length, same-standing}
 use Rattle.cc_kernel.proofs.Simulates.{map-append, state-call, state-go, state-leave, state-make, state-send, state-wait}
 use Rattle.cc_kernel.specs.Untimed.{NoDelays}
 use Rattle.cc_kernel.specs.Contract.{Answering, IsEnoughFor, Making, SameOuts, is_out_in}
 use Rattle.cc_kernel.specs.Invariant.{IsReadyFor, prepared_for}
 use Rattle.cc_kernel.specs.Store.{IsLocated, IsState, Contents, called_contents, left_contents, made_contents, sent_contents, waited, went_on}
-use Rattle.cc_kernel.specs.Seats.{gone_seats, is_out, is_served_by, seat_at, served_call, with_left, with_ready, with_waiting}
+use Rattle.cc_kernel.specs.Seats.{is_out, is_served_by, seat_at, served_call, with_left, with_ready, with_waiting}
 use Rattle.cc_kernel.specs.declared.store.Store.{Store}
 use Rattle.cc_kernel.specs.declared.need.Need.{Need}
 use Rattle.cc_kernel.specs.declared.need.Need.TheVariants as need
@@ -186,22 +186,3 @@ module _ {P : Type 0} where
       ∙ push-out (map is_out (set x.seats p seat)) i
       ∙ ap (λ xs. is_out_in xs i) (map-set is_out x.seats p seat)
   outs-create x p process new standing false i = ap (λ xs. is_out_in xs i) (outs-left x p standing)
-
-  -- no seats more, where a process is over
-  pub places-left : (x : Contents P) (p : ℕ) (standing : ProcessStanding) → length (left_contents x p standing).seats ≤ length x.seats + 1
-  places-left x p standing =
-      let a = length-gone (gone_seats (set x.seats p (with_left standing)) (map served_call (filter (is_for p) x.pending))) (filter (is_served_by p) x.served) in
-      let b = length-gone (set x.seats p (with_left standing)) (map served_call (filter (is_for p) x.pending)) in
-      let c = length-set x.seats p (with_left standing) in
-      omega (arith, a, b, c)
-
-  -- one more, where a process is made
-  pub places-create :
-      (x : Contents P) (p : ℕ) (process new : P) (standing : ProcessStanding) (b : Bool)
-      → length (if b then made_contents x p process new else left_contents x p standing).seats ≤ length x.seats + 1
-  places-create x p process new standing true =
-      let seat : Seat P = with_ready process (Made (record { 0 = length x.seats })) in
-      let a = length-append (set x.seats p seat) (with_ready new Go ∷ []) in
-      let c = length-set x.seats p seat in
-      omega (arith, a, c)
-  places-create x p process new standing false = places-left x p standing

@@ -1,14 +1,13 @@
 -- Calls by number, and the calls that each process serves.
 use Rattle.std.proofs.Common.{rules, ◌≡◌, ◌≢◌, ℕ, zero, suc, ◌+◌, ◌<◌, ◌≤◌, Bool, true, false, cond, not, List, [], ◌∷◌, ◌++◌, length, get_or, take, drop, refl, sym, ap, ◌∙◌, arith, nat_eq, Some}
-use Rattle.std.specs.Prelude.{remove}
+use Rattle.std.specs.Prelude.{All, remove}
 use Rattle.std.specs.List.{filter}
 use Rattle.std.proofs.lemmas.Bool.{eqb-true}
-use Rattle.std.proofs.lemmas.List.Elements.{filter-append}
+use Rattle.std.proofs.lemmas.List.Elements.{All-cons, All-nil, filter-append}
 use Rattle.cc_kernel.specs.Store.{AllUntimed, IsUntimed, Rising}
 use Rattle.cc_kernel.specs.Seats.{SplitsAt, is_served_by, no_call, no_served}
 use Rattle.cc_kernel.specs.declared.served.ServedCall.{ServedCall}
 use Rattle.cc_rules.specs.Choice.{call_numbered}
-use Rattle.cc_rules.specs.Events.{without_call}
 use Rattle.cc_rules.specs.declared.process.TransactionCall.{TransactionCall}
 
 same-number : (n : ℕ) → nat_eq n n ≡ true
@@ -61,58 +60,42 @@ Rising-length low [] high h = omega (arith, h)
 Rising-length low (call ∷ calls) high h =
     let r = Rising-length (call.number.0 + 1) calls high h.1 in let k : low ≤ call.number.0 = h.0 in omega arith
 
-Rising-at :
-    (low : ℕ) (calls : List TransactionCall) (high j : ℕ)
-    → Rising low calls high
-    → j < length calls
-    → low ≤ (get_or calls j no_call).number.0
-Rising-at low [] high j h lt = absurd (omega arith)
-Rising-at low (call ∷ calls) high zero h lt = h.0
-Rising-at low (call ∷ calls) high (suc j) h lt =
-    let r = Rising-at (call.number.0 + 1) calls high j h.1 (omega arith) in let k : low ≤ call.number.0 = h.0 in omega arith
-
 if-not : {A : Type 0} (b : Bool) (x y : A) → b ≡ false → cond b x y ≡ y
 if-not true x y h = cc
 if-not false x y h = refl
 
--- a call is found by its number
-pub found-by-number :
-    (low : ℕ) (calls : List TransactionCall) (high j : ℕ)
-    → Rising low calls high
-    → j < length calls
-    → call_numbered calls (get_or calls j no_call).number.0 ≡ Some (get_or calls j no_call)
-found-by-number low [] high j h lt = absurd (omega arith)
-found-by-number low (call ∷ calls) high zero h lt = rw same-number refl
-found-by-number low (call ∷ calls) high (suc j) h lt =
-    let r = Rising-at (call.number.0 + 1) calls high j h.1 (omega arith) in
-    rw (not-same call.number.0 (get_or calls j no_call).number.0 (omega arith))
-    (found-by-number (call.number.0 + 1) calls high j h.1 (omega arith))
+-- a call that is found has the number, and stands somewhere
+pub found-at :
+    (calls : List TransactionCall) (n : ℕ) (call : TransactionCall)
+    → call_numbered calls n ≡ Some call
+    → (call.number.0 ≡ n) × ((j : ℕ) × (j < length calls) × (get_or calls j no_call ≡ call))
+found-at [] n call h = cc
+found-at (other ∷ calls) n call h = step (nat_eq other.number.0 n) refl h (λ rest. found-at calls n call rest)
+  where
+    step :
+        (b : Bool)
+        → nat_eq other.number.0 n ≡ b
+        → cond b (Some other) (call_numbered calls n) ≡ Some call
+        → (call_numbered calls n ≡ Some call → (call.number.0 ≡ n) × ((j : ℕ) × (j < length calls) × (get_or calls j no_call ≡ call)))
+        → (call.number.0 ≡ n) × ((j : ℕ) × (j < length (other ∷ calls)) × (get_or (other ∷ calls) j no_call ≡ call))
+    step true e h more =
+        let same : other ≡ call = cc in
+        (ap (λ (c : TransactionCall). c.number.0) (sym same) ∙ eqb-true other.number.0 n e, (0, omega arith, same))
+    step false e h more =
+        let r = more h in
+        let lt : r.1.0 < length calls = r.1.1 in
+        (r.0, (suc r.1.0, omega (arith, lt), r.1.2))
 
--- the calls of greater numbers stay
-kept-above :
-    (low : ℕ) (calls : List TransactionCall) (high n : ℕ)
-    → n < low
-    → Rising low calls high
-    → filter (λ other. not (nat_eq other.number.0 n)) calls ≡ calls
-kept-above low [] high n lt h = refl
-kept-above low (call ∷ calls) high n lt h =
-    let k : low ≤ call.number.0 = h.0 in
-    rw (not-same-back call.number.0 n (omega arith))
-    (ap (λ xs. call ∷ xs) (kept-above (call.number.0 + 1) calls high n (omega arith) h.1))
+Rising-le : (low : ℕ) (calls : List TransactionCall) (high : ℕ) → Rising low calls high → low ≤ high
+Rising-le low [] high h = h
+Rising-le low (call ∷ calls) high h = let r = Rising-le (call.number.0 + 1) calls high h.1 in let k : low ≤ call.number.0 = h.0 in omega arith
 
--- without the call of a number is without what stands at its index
-pub without-is-remove :
-    (low : ℕ) (calls : List TransactionCall) (high j : ℕ)
-    → Rising low calls high
-    → j < length calls
-    → remove calls j ≡ without_call calls (get_or calls j no_call)
-without-is-remove low [] high j h lt = absurd (omega arith)
-without-is-remove low (call ∷ calls) high zero h lt =
-    rw same-number (sym (kept-above (call.number.0 + 1) calls high call.number.0 (omega arith) h.1))
-without-is-remove low (call ∷ calls) high (suc j) h lt =
-    let r = Rising-at (call.number.0 + 1) calls high j h.1 (omega arith) in
-    rw (not-same call.number.0 (get_or calls j no_call).number.0 (omega arith))
-    (ap (λ xs. call ∷ xs) (without-is-remove (call.number.0 + 1) calls high j h.1 (omega arith)))
+-- each call has a number below
+pub Rising-below : (low : ℕ) (calls : List TransactionCall) (high : ℕ) → Rising low calls high → All (λ call. call.number.0 < high) calls
+Rising-below low [] high h = All-nil (λ call. call.number.0 < high)
+Rising-below low (call ∷ calls) high h =
+    let r = Rising-le (call.number.0 + 1) calls high h.1 in
+    All-cons (λ c. c.number.0 < high) call calls (omega (arith, r)) (Rising-below (call.number.0 + 1) calls high h.1)
 
 pub AllUntimed-push : (calls : List TransactionCall) (call : TransactionCall) → AllUntimed calls → IsUntimed call.waiting → AllUntimed (calls ++ call ∷ [])
 AllUntimed-push [] call h k = (k, tt)
@@ -258,3 +241,12 @@ split-at p at call old new lt is e own last =
       own = ap (is_served_by p) same ∙ own;
       last = none-behind p at old last;
     }
+
+-- where none passes, none is dropped that does
+pub none-dropped : {A : Type 0} (p : A → Bool) (xs : List A) → filter p xs ≡ [] → filter (λ x. not (p x)) xs ≡ xs
+none-dropped p [] h = refl
+none-dropped p (x ∷ xs) h = step (p x) h (none-dropped p xs)
+  where
+    step : (b : Bool) → cond b (x ∷ filter p xs) (filter p xs) ≡ [] → (filter p xs ≡ [] → filter (λ y. not (p y)) xs ≡ xs) → cond (not b) (x ∷ filter (λ y. not (p y)) xs) (filter (λ y. not (p y)) xs) ≡ x ∷ xs
+    step true h rest = cc
+    step false h rest = ap (λ ys. x ∷ ys) (rest h)

@@ -1,20 +1,24 @@
 -- A call or an immediate alternative is taken: it is legal, and what is kept goes on as the state does.
-use Rattle.std.proofs.Common.{rules, ◌≡◌, ◌≢◌, inl, inr, ℕ, zero, suc, ◌<◌, ℤ, Bool, true, false, ◌||◌, cond, not, List, [], ◌∷◌, ◌++◌, length, get_or, set, map, refl, sym, ap, ◌∙◌, arith, nat_eq, append_assoc, append-nil}
-use Rattle.std.specs.List.{filter}
+use Rattle.std.proofs.Common.{rules, ◌≡◌, ◌≢◌, inl, inr, ℕ, zero, suc, ◌<◌, ℤ, Bool, true, false, ◌||◌, cond, not, List, [], ◌∷◌, ◌++◌, length, set, map, refl, sym, ap, ◌∙◌, arith, nat_eq, append_assoc, append-nil, Option, Some, None, ◌&&◌}
+use Rattle.std.specs.Prelude.{if◌then◌else◌}
+use Rattle.std.specs.List.{filter, list_all}
 use Rattle.std.proofs.lemmas.Bool.{eqb-true}
 use Rattle.std.proofs.lemmas.List.{length-set}
-use Rattle.std.proofs.lemmas.List.Elements.{All-push, filter-append}
+use Rattle.std.proofs.lemmas.List.Elements.{All-nil, All-push, filter-append}
 use Rattle.cc_base.specs.Meaning.{Meaning}
 use Rattle.cc_base.specs.declared.request.Grant.{Grant}
 use Rattle.cc_base.specs.declared.request.Grant.TheVariants.{Chose, Took}
 use Rattle.cc_kernel.proofs.Plain.{any-numbered, choosing-not-due, false-from, takes-eligible}
 use Rattle.cc_kernel.proofs.Seated.{Seated-at, Seated-length, Seated-set, same-standing, woken-fits}
-use Rattle.cc_kernel.proofs.Serving.{AllUntimed-filter, Rising-filter, found-by-number, without-is-remove}
+use Rattle.cc_kernel.proofs.Serving.{AllUntimed-filter, Rising-filter, found-at}
 use Rattle.cc_kernel.proofs.Simulates.{map-append, same-or-not, serving-other, serving-own, serving-set}
 use Rattle.cc_base.specs.Alternatives.{numbered}
+use Rattle.cc_base.specs.declared.alternatives.Alt.{Alt}
+use Rattle.cc_base.specs.declared.alternatives.Alt.TheVariants as alt
+use Rattle.cc_base.specs.declared.names.CallId.{CallId}
 use Rattle.cc_base.specs.declared.names.Pid.{Pid}
-use Rattle.cc_kernel.specs.Choice.{eligible_for, goes_at_once, takes}
-use Rattle.cc_rules.specs.Choice.{has_eligible, has_immediate, is_immediate, takes_at_once}
+use Rattle.cc_kernel.specs.Choice.{eligible_for, goes_at_once}
+use Rattle.cc_rules.specs.Choice.{accepts, call_numbered, goes_before, has_eligible, has_immediate, is_chosen, is_immediate, rank, takes_at_once}
 use Rattle.std.specs.Option.{option_map_or}
 use Rattle.std.proofs.lemmas.Bool.{and_parts}
 use Rattle.cc_kernel.specs.Store.{IsState, Contents, accepted_contents, chose_contents}
@@ -33,62 +37,72 @@ use Rattle.cc_rules.specs.declared.process.ProcessStanding.{ProcessStanding}
 use Rattle.cc_rules.specs.declared.process.ProcessStanding.TheVariants.{Running, AtSelect, AtDelay, AtCall, Ended, Faulted}
 use Rattle.cc_rules.specs.declared.process.TransactionCall.{TransactionCall}
 
+-- who takes a call waits
 pub takes-waiting :
-    (m : Meaning) (x : ProcessStanding) (calls : List TransactionCall) (i : ℕ) (call : TransactionCall)
-    → takes m x calls i call ≡ true
+    (test : Alt → Bool) (x : ProcessStanding) (i : ℕ)
+    → option_map_or test (numbered (open_alternatives x) i) false ≡ true
     → (is_running x ≡ false) × (is_over x ≡ false)
-takes-waiting m Running calls i call h = cc
-takes-waiting m (AtSelect alts asked) calls i call h = (refl, refl)
-takes-waiting m (AtDelay deadline) calls i call h = (refl, refl)
-takes-waiting m (AtCall number) calls i call h = (refl, refl)
-takes-waiting m Ended calls i call h = cc
-takes-waiting m (Faulted kind) calls i call h = cc
-
-immediate-waiting :
-    (x : ProcessStanding) (i : ℕ)
-    → option_map_or is_immediate (numbered (open_alternatives x) i) false ≡ true
-    → (is_running x ≡ false) × (is_over x ≡ false)
-immediate-waiting Running i h = cc
-immediate-waiting (AtSelect alts asked) i h = (refl, refl)
-immediate-waiting (AtDelay deadline) i h = (refl, refl)
-immediate-waiting (AtCall number) i h = (refl, refl)
-immediate-waiting Ended i h = cc
-immediate-waiting (Faulted kind) i h = cc
+takes-waiting test Running i h = cc
+takes-waiting test (AtSelect alts asked) i h = (refl, refl)
+takes-waiting test (AtDelay deadline) i h = cc
+takes-waiting test (AtCall number) i h = cc
+takes-waiting test Ended i h = cc
+takes-waiting test (Faulted kind) i h = cc
 
 pub goes-waiting :
     (m : Meaning) (p : ℕ) (x : ProcessStanding) (calls : List TransactionCall) (i : ℕ)
     → goes_at_once m p x calls i ≡ true
     → (is_running x ≡ false) × (is_over x ≡ false)
-goes-waiting m p x calls i h = immediate-waiting x i (and_parts (option_map_or is_immediate (numbered (open_alternatives x) i) false) (not (eligible_for m p x calls)) h).0
+goes-waiting m p x calls i h = takes-waiting is_immediate x i (and_parts (option_map_or is_immediate (numbered (open_alternatives x) i) false) (not (eligible_for m p x calls)) h).0
 
--- who takes a call has a seat
-pub takes-within :
-    {P : Type 0} (m : Meaning) (seats : List (Seat P)) (t : ℕ) (calls : List TransactionCall) (i : ℕ) (call : TransactionCall)
-    → takes m (seat_at seats t).standing calls i call ≡ true
-    → t < length seats
-takes-within m [] t calls i call h = cc
-takes-within m (seat ∷ seats) zero calls i call h = omega arith
-takes-within m (seat ∷ seats) (suc t) calls i call h = let r = takes-within m seats t calls i call h in omega arith
+-- who waits has a seat
+pub waits-within : {P : Type 0} (seats : List (Seat P)) (t : ℕ) → is_over (seat_at seats t).standing ≡ false → t < length seats
+waits-within [] t h = cc
+waits-within (seat ∷ seats) zero h = omega arith
+waits-within (seat ∷ seats) (suc t) h = let r = waits-within seats t h in omega arith
+
+-- a call that is chosen is one of the target's
+pub chosen-target :
+    (m : Meaning) (p : ℕ) (o : Option Alt) (calls : List TransactionCall) (call : TransactionCall)
+    → option_map_or (λ a. is_chosen m p a calls call) o false ≡ true
+    → call.target.0 ≡ p
+chosen-target m p None calls call h = cc
+chosen-target m p (Some (alt.Accept trans site env)) calls call h = here (nat_eq call.target.0 p) refl h
+  where
+    here :
+        (b : Bool)
+        → nat_eq call.target.0 p ≡ b
+        → option_map_or (λ k. list_all (λ other. goes_before k call.number.0 (rank m p (alt.Accept trans site env) other) other.number.0) calls)
+        (if b && nat_eq call.trans trans then m.fit site env call.args else None)
+        false
+        ≡ true
+        → call.target.0 ≡ p
+    here true e h = eqb-true call.target.0 p e
+    here false e h = cc
+chosen-target m p (Some (alt.After wait)) calls call h = cc
+chosen-target m p (Some alt.Now) calls call h = cc
+chosen-target m p (Some alt.Terminate) calls call h = cc
 
 served-more :
-    (i : ℕ) (call : TransactionCall) (served : List ServedCall) (qs : List Process) (q : Process)
-    → call.target.0 < length qs
-    → q.serving ≡ (process_at qs call.target.0).serving ++ call ∷ []
+    (i p : ℕ) (call : TransactionCall) (served : List ServedCall) (qs : List Process) (q : Process)
+    → call.target.0 ≡ p
+    → p < length qs
+    → q.serving ≡ (process_at qs p).serving ++ call ∷ []
     → filter (is_served_by i) served ≡ map served_call (process_at qs i).serving
-    → filter (is_served_by i) (served ++ served_call call ∷ []) ≡ map served_call (process_at (set qs call.target.0 q) i).serving
-served-more i call served qs q lt e h =
+    → filter (is_served_by i) (served ++ served_call call ∷ []) ≡ map served_call (process_at (set qs p q) i).serving
+served-more i p call served qs q here lt e h =
     filter-append (is_served_by i) served (served_call call ∷ [])
-    ∙ elim (same-or-not i call.target.0) [
+    ∙ elim (same-or-not i p) [
       | inl same ↦
           ap (λ xs. filter (is_served_by i) served ++ xs) (own i same)
           ∙ ap (λ xs. xs ++ served_call call ∷ []) (h ∙ ap (λ j. map served_call (process_at qs j).serving) same)
-          ∙ sym (map-append served_call (process_at qs call.target.0).serving (call ∷ []))
-          ∙ ap (map served_call) (sym (ap (λ (r : Process). r.serving) (ap (λ j. process_at (set qs call.target.0 q) j) same ∙ serving-own qs call.target.0 q lt) ∙ e))
+          ∙ sym (map-append served_call (process_at qs p).serving (call ∷ []))
+          ∙ ap (map served_call) (sym (ap (λ (r : Process). r.serving) (ap (λ j. process_at (set qs p q) j) same ∙ serving-own qs p q lt) ∙ e))
       | inr ne ↦
           ap (λ xs. filter (is_served_by i) served ++ xs) (other ne)
           ∙ append-nil (filter (is_served_by i) served)
           ∙ h
-          ∙ ap (map served_call) (sym (serving-other qs call.target.0 i q ne))
+          ∙ ap (map served_call) (sym (serving-other qs p i q ne))
     ]
   where
     one : (b : Bool) → b ≡ true → cond b (served_call call ∷ []) [] ≡ served_call call ∷ []
@@ -102,11 +116,11 @@ served-more i call served qs q lt e h =
     same-number : (n : ℕ) → nat_eq n n ≡ true
     same-number n = search rules
 
-    own : (j : ℕ) → j ≡ call.target.0 → filter (is_served_by j) (served_call call ∷ []) ≡ served_call call ∷ []
-    own j same = one (nat_eq call.target.0 j) (ap (nat_eq call.target.0) same ∙ same-number call.target.0)
+    own : (j : ℕ) → j ≡ p → filter (is_served_by j) (served_call call ∷ []) ≡ served_call call ∷ []
+    own j same = one (nat_eq call.target.0 j) (ap (λ k. nat_eq k j) (here ∙ sym same) ∙ same-number j)
 
-    other : i ≢ call.target.0 → filter (is_served_by i) (served_call call ∷ []) ≡ []
-    other ne = none (nat_eq call.target.0 i) (false-from (nat_eq call.target.0 i) (λ k. ne (sym (eqb-true call.target.0 i k))))
+    other : i ≢ p → filter (is_served_by i) (served_call call ∷ []) ≡ []
+    other ne = none (nat_eq call.target.0 i) (false-from (nat_eq call.target.0 i) (λ k. ne (sym (eqb-true call.target.0 i k) ∙ here)))
 
 module _ {P : Type 0} (m : Meaning) (located : P → ℕ → List ℤ → List Grant → Type 0) where
   -- whether the last event was a Time does not matter
@@ -126,27 +140,24 @@ module _ {P : Type 0} (m : Meaning) (located : P → ℕ → List ℤ → List G
 
   -- where the kept calls are written as those of the state
   state-accepted :
-      (s : State) (x : Contents P) (index i : ℕ)
+      (s : State) (x : Contents P) (p i : ℕ) (call : TransactionCall)
       → IsState located s x
-      → index < length s.pending
-      → takes m (process_at s.processes (get_or s.pending index no_call).target.0).standing s.pending i (get_or s.pending index no_call) ≡ true
-      → IsState located (accepted s (get_or s.pending index no_call).target.0 i (get_or s.pending index no_call)) (accepted_contents (record x { pending = s.pending }) index i)
-  state-accepted s x index i k lt t =
-      let call = get_or s.pending index no_call in
-      let q = process_at s.processes call.target.0 in
-      let waits = takes-waiting m q.standing s.pending i call t in
-      let within : call.target.0 < length x.seats =
-      takes-within m x.seats call.target.0 s.pending i call
-      (ap (λ st. takes m st s.pending i call) (same-standing located s.processes x.seats call.target.0 k.seated) ∙ t) in
+      → call.target.0 ≡ p
+      → (is_running (process_at s.processes p).standing ≡ false) × (is_over (process_at s.processes p).standing ≡ false)
+      → IsState located (accepted s p i call) (accepted_contents x p i call)
+  state-accepted s x p i call k here waits =
+      let q = process_at s.processes p in
+      let over : is_over (seat_at x.seats p).standing ≡ false = ap is_over (same-standing located s.processes x.seats p k.seated) ∙ waits.1 in
+      let within = waits-within x.seats p over in
       let new : Process = record (granted q (Took i call.args)) { serving = q.serving ++ call ∷ [] } in
       record {
         seated =
-            Seated-set located s.processes x.seats call.target.0 new (woken (seat_at x.seats call.target.0) (Took i call.args)) k.seated
-            (woken-fits located q (seat_at x.seats call.target.0) (Took i call.args) (q.serving ++ call ∷ []) waits.0 waits.1
-            (Seated-at located s.processes x.seats call.target.0 within k.seated));
+            Seated-set located s.processes x.seats p new (woken (seat_at x.seats p) (Took i call.args)) k.seated
+            (woken-fits located q (seat_at x.seats p) (Took i call.args) (q.serving ++ call ∷ []) waits.0 waits.1
+            (Seated-at located s.processes x.seats p within k.seated));
         few = rw length-set k.few;
-        pending = without-is-remove 0 s.pending s.drawn index k.rising lt;
-        served = λ j. served-more j call x.served s.processes new (rw (Seated-length located s.processes x.seats k.seated) within) refl (k.served j);
+        pending = ap (filter (λ other. not (nat_eq other.number.0 call.number.0))) k.pending;
+        served = λ j. served-more j p call x.served s.processes new here (rw (Seated-length located s.processes x.seats k.seated) within) refl (k.served j);
         drawn = k.drawn;
         input = k.input;
         moment = k.moment;
@@ -156,27 +167,24 @@ module _ {P : Type 0} (m : Meaning) (located : P → ℕ → List ℤ → List G
 
   -- a call is taken
   pub accepts-one :
-      (s : State) (x : Contents P) (index i : ℕ)
+      (s : State) (x : Contents P) (p : Pid) (i : ℕ) (number : CallId) (call : TransactionCall)
       → IsState located s x
-      → index < length x.pending
-      → takes m (seat_at x.seats (get_or x.pending index no_call).target.0).standing x.pending i (get_or x.pending index no_call) ≡ true
-      → TakesOne m located s (Accept (get_or x.pending index no_call).target i (get_or x.pending index no_call).number) (accepted_contents x index i)
-  accepts-one s x index i k lt t =
-      let call = get_or s.pending index no_call in
-      let lt' : index < length s.pending = rw (← k.pending) lt in
-      let same = same-standing located s.processes x.seats call.target.0 k.seated in
-      let t' : takes m (process_at s.processes call.target.0).standing s.pending i call ≡ true = rw (k.pending, same) at t in
-      let found = found-by-number 0 s.pending s.drawn index k.rising lt' in
-      let store = state-accepted s x index i k lt' t' in
-      let waits = takes-waiting m (process_at s.processes call.target.0).standing s.pending i call t' in
-      let within : call.target.0 < length s.processes =
-      rw (Seated-length located s.processes x.seats k.seated)
-      (takes-within m x.seats call.target.0 s.pending i call (ap (λ st. takes m st s.pending i call) same ∙ t')) in
-      let due = choosing-not-due m s call.target.0 within waits.1 (or-left (has_eligible m s call.target.0) (has_immediate s call.target.0) (takes-eligible m s call.target.0 i index call no_call lt' refl t')) in
+      → call_numbered x.pending number.0 ≡ Some call
+      → option_map_or (λ a. is_chosen m p.0 a x.pending call) (numbered (open_alternatives (seat_at x.seats p.0).standing) i) false ≡ true
+      → TakesOne m located s (Accept p i number) (accepted_contents x p.0 i call)
+  accepts-one s x p i number call k found t =
+      let same = same-standing located s.processes x.seats p.0 k.seated in
+      let found' : call_numbered s.pending number.0 ≡ Some call = ap (λ calls. call_numbered calls number.0) (sym k.pending) ∙ found in
+      let t' : accepts m s p.0 i call ≡ true = rw (k.pending, same) at t in
+      let waits = takes-waiting (λ a. is_chosen m p.0 a s.pending call) (process_at s.processes p.0).standing i t' in
+      let at = found-at s.pending number.0 call found' in
+      let over : is_over (seat_at x.seats p.0).standing ≡ false = ap is_over same ∙ waits.1 in
+      let within : p.0 < length s.processes = rw (Seated-length located s.processes x.seats k.seated) (waits-within x.seats p.0 over) in
+      let due = choosing-not-due m s p.0 within waits.1 (or-left (has_eligible m s p.0) (has_immediate s p.0) (takes-eligible m s p.0 i at.1.0 call no_call at.1.1 at.1.2 t')) in
       record {
-        legal = rw k.pending (rw (due, found) t');
+        legal = rw (due, found') t';
         settling = refl;
-        state = rw k.pending (rw found (any-time (accepted s call.target.0 i call) (accepted_contents (record x { pending = s.pending }) index i) false store));
+        state = rw found' (any-time (accepted s p.0 i call) (accepted_contents x p.0 i call) false (state-accepted s x p.0 i call k (chosen-target m p.0 (numbered (open_alternatives (process_at s.processes p.0).standing) i) s.pending call t') waits));
       }
     where
       or-left : (a b : Bool) → a ≡ true → (a || b) ≡ true
@@ -195,7 +203,7 @@ module _ {P : Type 0} (m : Meaning) (located : P → ℕ → List ℤ → List G
       let q = process_at s.processes p.0 in
       let t' : takes_at_once m s p.0 i ≡ true = rw (k.pending, same) at t in
       let parts = and_parts (option_map_or is_immediate (numbered (open_alternatives q.standing) i) false) (not (has_eligible m s p.0)) t' in
-      let waits = immediate-waiting q.standing i parts.0 in
+      let waits = takes-waiting is_immediate q.standing i parts.0 in
       let within : p.0 < length s.processes = rw (Seated-length located s.processes x.seats k.seated) lt in
       let due = choosing-not-due m s p.0 within waits.1 (or-behind (has_eligible m s p.0) (has_immediate s p.0) (any-numbered is_immediate (open_alternatives q.standing) i parts.0)) in
       record {
@@ -220,6 +228,11 @@ module _ {P : Type 0} (m : Meaning) (located : P → ℕ → List ℤ → List G
       or-behind : (a b : Bool) → b ≡ true → (a || b) ≡ true
       or-behind true b h = refl
       or-behind false b h = h
+
+  -- the journal is as it was
+  pub goes-none : (first : State) (before : List Event) (x : Contents P) → IsState located first x → GoesOn m located first before before x
+  goes-none first before x k =
+      record { more = []; journal = sym (append-nil before); settles = All-nil (λ e. is_settling e ≡ true); runs = tt; state = k }
 
   -- the journal goes on with one event more
   pub goes-one :

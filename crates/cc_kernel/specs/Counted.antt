@@ -1,8 +1,8 @@
 -- What the seats keep beside them: how many processes stand how, and who is ready, in the order in which they became so.
-use Rattle.std.specs.Prelude.{◌≡◌, ℕ, ◌≤◌, ◌+◌, Bool, true, false, List, length, count_by, nat_eq, if◌then◌else◌}
-use Rattle.std.specs.List.{list_any}
+use Rattle.std.specs.Prelude.{◌≡◌, ℕ, ◌≤◌, ◌+◌, Bool, true, false, ◌&&◌, ◌||◌, List, length, count_by, nat_eq, if◌then◌else◌}
+use Rattle.std.specs.List.{list_all, list_any}
 use Rattle.cc_base.specs.Limits.{most_processes}
-use Rattle.cc_kernel.specs.Seats.{is_ready, seat_at}
+use Rattle.cc_kernel.specs.Seats.{is_ready, seat_at, with_left}
 use Rattle.cc_kernel.specs.declared.counts.Counts.{Counts}
 use Rattle.cc_kernel.specs.declared.seat.Seat.{Seat}
 use Rattle.cc_kernel.specs.declared.seat.Whereabouts.{Whereabouts}
@@ -10,6 +10,7 @@ use Rattle.cc_kernel.specs.declared.seat.Whereabouts.TheVariants.{Ready, Out, Wa
 use Rattle.cc_rules.specs.Choice.{is_terminate}
 use Rattle.cc_rules.specs.State.{is_faulted, is_over, is_running, open_alternatives}
 use Rattle.cc_rules.specs.declared.process.ProcessStanding.{ProcessStanding}
+use Rattle.cc_rules.specs.declared.process.ProcessStanding.TheVariants.{Ended}
 
 -- `terminate` is one of its open alternatives
 abbrev pub may_terminate : ProcessStanding → Bool
@@ -74,3 +75,13 @@ module _ {P : Type 0} where
     pub listed : AreListed seats ready
     pub room : length seats + spare ≤ seats_room
     pub list_room : length seats + spare ≤ ready_room
+
+  -- each process is over or has `terminate` among its alternatives, and at least one has
+  abbrev pub all_may_end : List (Seat P) → Bool
+  all_may_end seats =
+      list_all (λ seat. is_over seat.standing || may_terminate seat.standing) seats
+      && list_any (λ seat. may_terminate seat.standing) seats
+
+  -- a seat with its number, where whoever has `terminate` among its alternatives has ended
+  abbrev pub ended_seat : ℕ × Seat P → Seat P
+  ended_seat e = if may_terminate e.1.standing then with_left Ended else e.1

@@ -1,9 +1,10 @@
 -- When a kernel is one: its journal is a settled run whose last state is kept, and what is made for the next step is there.
-use Rattle.std.specs.Prelude.{◌≡◌, ℕ, ◌+◌, ◌≤◌, ◌<◌, ℤ, false, List, [], length, All}
+use Rattle.std.specs.Prelude.{◌≡◌, ℕ, ◌≤◌, ◌<◌, ℤ, false, List, [], All}
 use Rattle.cc_base.specs.Grants.{value_cells}
 use Rattle.cc_base.specs.Meaning.{Meaning}
 use Rattle.cc_base.specs.declared.request.Grant.{Grant}
 use Rattle.cc_kernel.specs.Contract.{Prepared, Nothing, Step, Making, Answering, Moment}
+use Rattle.cc_kernel.specs.Resting.{AllRest}
 use Rattle.cc_kernel.specs.Store.{IsState, contents}
 use Rattle.cc_kernel.specs.declared.need.Need.{Need}
 use Rattle.cc_kernel.specs.declared.need.Need.TheVariants as need
@@ -25,8 +26,8 @@ prepared_for need.Moment = Moment
 -- there is room for the events, the calls and the process of one step
 abbrev pub HasRoom : {P : Type 0} → Store P → ℕ → Type 0
 HasRoom store events =
-    (length store.seats.items + 3 ≤ events)
-    × (length store.pending.items + 1 ≤ store.served.spare)
+    (3 ≤ events)
+    × (0 < store.served.spare)
     × (0 < store.pending.spare)
     × (0 < store.seats.spare)
 
@@ -39,11 +40,12 @@ IsReadyFor m located store events (need.Answering value zeros) =
     HasRoom store events × All (λ call. value_cells m call.trans ≤ zeros) store.served.items
 IsReadyFor m located store events need.Moment = HasRoom store events
 
--- the journal is a settled run of at most the allowed turns, and its last state is kept
+-- the journal is a settled run of at most the allowed turns, its last state is kept, and in it no process can take anything
 pub record IsKept {P : Type 0} (m : Meaning) (located : P → ℕ → List ℤ → List Grant → Type 0) (allowed spent : ℕ) (events : List Event) (room : ℕ) (store : Store P) (need : Need P) (faults : FaultList) : Type 0 where
   pub runs : IsRun m store.input events
   pub settled : IsSettledRun m store.input events
   pub state : IsState located (state_after m store.input events) (contents store)
+  pub rest : AllRest m (contents store)
   pub quiet : is_unsettled m (state_after m store.input events) ≡ false
   pub spent_turns : spent ≡ turns events
   pub within : spent ≤ allowed

@@ -12,6 +12,10 @@ pub mod Store
 pub mod Invariant
 -- which pending calls may be taken, as the lists tell it
 pub mod Choice
+-- the pending calls, with who waits for each
+pub mod Asked
+-- who can take nothing
+pub mod Resting
 -- what settling does
 pub mod Settles
 -- requests without a deadline

@@ -1,5 +1,5 @@
 -- What the kernel keeps of a state, and when it is the state that the machine is in.
-use Rattle.std.specs.Prelude.{◌≡◌, ℕ, ◌+◌, ◌≤◌, ℤ, true, false, not, List, [], ◌∷◌, ◌++◌, length, drop, get_or, map, nat_lt, remove, set, slice_get, if◌then◌else◌}
+use Rattle.std.specs.Prelude.{◌≡◌, ℕ, ◌+◌, ◌≤◌, ℤ, true, false, not, List, [], ◌∷◌, ◌++◌, length, drop, map, nat_eq, nat_lt, set, slice_get, if◌then◌else◌}
 use Rattle.std.specs.List.{enumerate_from, filter}
 use Rattle.cc_base.specs.Meaning.{Meaning}
 use Rattle.cc_base.specs.declared.names.Pid.{Pid}
@@ -7,7 +7,7 @@ use Rattle.cc_base.specs.declared.request.Grant.{Grant}
 use Rattle.cc_base.specs.declared.request.Grant.TheVariants.{Go, Made, Took, Chose, Byte}
 use Rattle.cc_kernel.specs.Choice.{after_end, seat_waits}
 use Rattle.cc_kernel.specs.Untimed.{NoDelays}
-use Rattle.cc_kernel.specs.Seats.{gone_seats, is_served_by, no_call, seat_at, served_call, with_left, with_ready, with_waiting, woken}
+use Rattle.cc_kernel.specs.Seats.{gone_seats, is_served_by, seat_at, served_call, with_left, with_ready, with_waiting, woken}
 use Rattle.cc_kernel.specs.declared.store.Store.{Store}
 use Rattle.cc_kernel.specs.declared.seat.Whereabouts.{Whereabouts}
 use Rattle.cc_kernel.specs.declared.seat.Whereabouts.TheVariants.{Ready, Out, Waits, Left}
@@ -115,13 +115,12 @@ module _ {P : Type 0} where
         served = filter (λ call. not (seat_waits m x.seats x.pending call.target.0)) x.served;
       }
 
-  -- the pending call at this index is served by its target, which took it by its alternative i
-  abbrev pub accepted_contents : Contents P → ℕ → ℕ → Contents P
-  accepted_contents x index i =
-      let call = get_or x.pending index no_call in
+  -- p serves this call, which was pending: it took it by its alternative i
+  abbrev pub accepted_contents : Contents P → ℕ → ℕ → TransactionCall → Contents P
+  accepted_contents x p i call =
       record x {
-        seats = set x.seats call.target.0 (woken (seat_at x.seats call.target.0) (Took i call.args));
-        pending = remove x.pending index;
+        seats = set x.seats p (woken (seat_at x.seats p) (Took i call.args));
+        pending = filter (λ other. not (nat_eq other.number.0 call.number.0)) x.pending;
         served = x.served ++ served_call call ∷ [];
       }
 

@@ -1,12 +1,19 @@
-ghost use Rattle.std.specs.Prelude.{◌≡◌, ◌+◌, ◌<◌, ◌≤◌, false, true, length, nat_lt, if◌then◌else◌};
+ghost use Rattle.std.specs.Prelude.{◌≡◌, ◌<◌, ◌≤◌, All, Some, false, true, length, map, nat_eq, nat_lt, not, if◌then◌else◌};
+ghost use Rattle.std.specs.List.{filter};
+ghost use Rattle.cc_rules.specs.Choice.{call_numbered};
+ghost use Rattle.cc_rules.specs.Effects.{is_for};
+ghost use Rattle.cc_rules.specs.declared.process.TransactionCall.{TransactionCall};
 ghost use Rattle.cc_base.specs.declared.names.FaultKind.TheVariants.{TooMany};
 ghost use Rattle.cc_base.specs.declared.request.Grant.TheVariants.{Go, Gone};
 ghost use Rattle.cc_kernel.specs.Store.{called_contents, got_byte, left_contents, made_contents, contents, sent_contents, waited, went_on};
-ghost use Rattle.cc_kernel.specs.Seats.{is_ready, seat_at};
+ghost use Rattle.cc_kernel.specs.Seats.{answered_seats, gone_seats, is_ready, seat_at, served_call};
 ghost use Rattle.cc_base.specs.Limits.{most_processes};
 ghost use Rattle.cc_rules.specs.State.{is_over};
 ghost use Rattle.cc_rules.specs.declared.process.ProcessStanding.TheVariants.{AtSelect, Faulted};
 
+use crate::pending::Pending;
+use crate::seats::Seats;
+use crate::served::served_call;
 use crate::store::Store;
 use cc_base::limits::MOST_PROCESSES;
 use cc_base::{Alts, Behave, CallId, Cells, FaultKind, Grant, Pid};
@@ -18,7 +25,6 @@ pub(crate) fn go_on<P: Drop>(store: &mut Store<P>, pid: Pid, process: P, grant: 
     requires idle { is_ready (seat_at store.old.seats.items pid.0) ≡ false }
     ensures contents { contents store.new ≡ went_on (contents store.old) pid.0 process grant }
     ensures room { store.old.served.spare ≤ store.new.served.spare }
-    ensures calls { length store.new.pending.items ≤ length store.old.pending.items + 1 }
 {
     store.seats.put_ready(pid.0 as usize, process, grant);
 }
@@ -29,7 +35,6 @@ pub(crate) fn select<P: Drop>(store: &mut Store<P>, pid: Pid, process: P, alts: 
     requires idle { is_ready (seat_at store.old.seats.items pid.0) ≡ false }
     ensures contents { contents store.new ≡ waited (contents store.old) pid.0 process (AtSelect alts store.old.moment) }
     ensures room { store.old.served.spare ≤ store.new.served.spare }
-    ensures calls { length store.new.pending.items ≤ length store.old.pending.items + 1 }
 {
     let standing = ProcessStanding::AtSelect {
         alts,
@@ -44,7 +49,6 @@ pub(crate) fn get<P: Drop>(store: &mut Store<P>, pid: Pid, process: P)
     requires idle { is_ready (seat_at store.old.seats.items pid.0) ≡ false }
     ensures contents { contents store.new ≡ got_byte (contents store.old) pid.0 process }
     ensures room { store.old.served.spare ≤ store.new.served.spare }
-    ensures calls { length store.new.pending.items ≤ length store.old.pending.items + 1 }
 {
     let byte = store.input.get(store.taken);
     store
@@ -68,9 +72,9 @@ pub(crate) fn call<P: Drop>(
     requires idle { is_ready (seat_at store.old.seats.items pid.0) ≡ false }
     requires room { 0 < store.old.pending.spare }
     requires few { store.old.drawn < 4294967295 }
+    requires last { All (λ call. call.number.0 < store.old.drawn) store.old.pending.items }
     ensures contents { contents store.new ≡ (if is_over (seat_at store.old.seats.items target.0).standing then went_on (contents store.old) pid.0 process Gone else called_contents (contents store.old) pid process target trans args) }
     ensures room { store.old.served.spare ≤ store.new.served.spare }
-    ensures calls { length store.new.pending.items ≤ length store.old.pending.items + 1 }
 {
     if !store.seats.is_there(target) {
         store.seats.put_ready(pid.0 as usize, process, Grant::Gone);
@@ -105,9 +109,9 @@ pub(crate) fn send<P: Drop>(
     requires idle { is_ready (seat_at store.old.seats.items pid.0) ≡ false }
     requires room { 0 < store.old.pending.spare }
     requires few { store.old.drawn < 4294967295 }
+    requires last { All (λ call. call.number.0 < store.old.drawn) store.old.pending.items }
     ensures contents { contents store.new ≡ (if is_over (seat_at store.old.seats.items target.0).standing then went_on (contents store.old) pid.0 process Go else sent_contents (contents store.old) pid process target trans args) }
     ensures room { store.old.served.spare ≤ store.new.served.spare }
-    ensures calls { length store.new.pending.items ≤ length store.old.pending.items + 1 }
 {
     let is_there = store.seats.is_there(target);
     store.seats.put_ready(pid.0 as usize, process, Grant::Go);
@@ -131,13 +135,33 @@ pub(crate) fn leave<P: Drop>(store: &mut Store<P>, pid: Pid, standing: ProcessSt
     requires over { is_over standing ≡ true }
     ensures contents { contents store.new ≡ left_contents (contents store.old) pid.0 standing }
     ensures room { store.old.served.spare ≤ store.new.served.spare }
-    ensures calls { length store.new.pending.items ≤ length store.old.pending.items + 1 }
 {
     store.seats.put_left(pid.0 as usize, standing);
-    store.seats.gone_pending(pid, store.pending.as_slice());
+    drop_calls(&mut store.seats, &mut store.pending, pid);
     store.seats.gone_served(pid, store.served.as_slice());
-    store.pending.drop_all(pid);
     store.served.drop_all(pid);
+}
+
+// Every call that is pending at the target is dropped, and its caller, where one waits, goes on with Gone.
+fn drop_calls<P: Drop>(seats: &mut Seats<P>, pending: &mut Pending, target: Pid)
+    ensures seats { seats.new.items ≡ gone_seats seats.old.items (map served_call (filter (is_for target.0) pending.old.items)) }
+    ensures pending { pending.new.items ≡ filter (λ call. not (is_for target.0 call)) pending.old.items }
+{
+    while let Some(number) = pending.first_at(target) {
+        drop_call(seats, pending, number);
+    }
+}
+
+// The pending call of this number is dropped, and its caller, where one waits, goes on with Gone.
+fn drop_call<P: Drop>(seats: &mut Seats<P>, pending: &mut Pending, number: CallId)
+    requires { (call : TransactionCall) × (call_numbered pending.old.items number.0 ≡ Some call) }
+    ensures seats { (call : TransactionCall) → call_numbered pending.old.items number.0 ≡ Some call → seats.new.items ≡ answered_seats seats.old.items (served_call call) Gone }
+    ensures pending { pending.new.items ≡ filter (λ call. not (nat_eq call.number.0 number.0)) pending.old.items }
+{
+    let Some(call) = pending.take(number) else {
+        unreachable!()
+    };
+    seats.answer(served_call(&call), Grant::Gone);
 }
 
 /// The process has made another, where there are not too many.
@@ -147,7 +171,6 @@ pub(crate) fn create<P: Drop>(store: &mut Store<P>, pid: Pid, process: P, new: P
     requires room { 0 < store.old.seats.spare }
     ensures contents { contents store.new ≡ (if nat_lt (length store.old.seats.items) most_processes then made_contents (contents store.old) pid.0 process new else left_contents (contents store.old) pid.0 (Faulted TooMany)) }
     ensures room { store.old.served.spare ≤ store.new.served.spare }
-    ensures calls { length store.new.pending.items ≤ length store.old.pending.items + 1 }
 {
     let count = store.seats.len();
     if count >= MOST_PROCESSES as usize {

@@ -56,8 +56,8 @@ fn moved(count: usize, was: bool, is: bool) -> usize
     }
 }
 
-// Whether the process waits for an alternative where `terminate` is one.
-fn may_terminate(standing: &ProcessStanding) -> bool
+/// Whether the process waits for an alternative where `terminate` is one.
+pub(crate) fn may_terminate(standing: &ProcessStanding) -> bool
     ensures { result ≡ may_terminate standing.now }
 {
     match standing {

@@ -7,12 +7,13 @@ ghost use Rattle.cc_rules.specs.Faulted.{faults_from};
 ghost use Rattle.cc_rules.specs.Runs.{IsRun, IsSettledRun, bytes_of, printed, state_after, turns};
 ghost use Rattle.cc_rules.specs.declared.event.Standing.TheVariants.{Going, Idle};
 
-use crate::calls::{Pending, Served};
 use crate::faults::list_faults;
 use crate::need::Need;
-use crate::perform::perform;
+use crate::pending::Pending;
+use crate::perform::{perform, roused_by};
 use crate::prepare::{make_room, need_of};
 use crate::seats::Seats;
+use crate::served::Served;
 use crate::settle::settle;
 use crate::store::Store;
 use cc_base::limits::MOST_PROCESSES;
@@ -123,6 +124,7 @@ impl<B: Behave> Kernel<B> {
         ensures printed { printed (B.means self.new.code) self.new.input self.new.journal ≡ printed (B.means self.old.code) self.old.input self.old.journal ++ bytes_of request }
         ensures others { OthersStay (B.means self.new.code) self.new.input self.old.journal self.new.journal self.old.outs pid }
     {
+        let roused = roused_by(pid, &request);
         let word = Word::of(&request);
         let need = mem::replace(&mut self.need, Need::Nothing);
         let bytes = perform(
@@ -136,7 +138,13 @@ impl<B: Behave> Kernel<B> {
         );
         self.journal.add(Event::Ask { pid, word });
         self.spent += 1;
-        settle(&*self.code, &mut self.store, &mut self.journal);
+        settle(
+            &*self.code,
+            self.alloc,
+            &mut self.store,
+            &mut self.journal,
+            roused,
+        );
         bytes
     }
 

@@ -2,38 +2,46 @@
 //!
 //! What a kernel is to its callers stands in `specs/Contract`, and speaks of nothing inside.
 //!
-//! What is kept (`Store`) are lists: a seat for each process by number, the pending calls in the order asked, and the calls
-//! that are being served in the order accepted. A seat says how its process stands and its whereabouts: ready with its next
-//! grant, out, waiting, or gone. Beside the seats stand how many processes run, are over, were stopped by a fault or have
-//! `terminate` among their alternatives, and the numbers of those that are ready, in the order in which they became so
-//! (`AreKept` in `specs/Counted`): a count changes where a standing does. The state of the machine isn't stored. It is the run of the journal, and the kernel's
-//! invariant says that what is kept is that state (`IsState` in `specs/Store`, `IsKept` in `specs/Invariant`).
+//! What is kept (`Store`) is a seat for each process by number, the pending calls in the order asked, and the calls that are
+//! being served in the order accepted. A seat says how its process stands and its whereabouts: ready with its next grant, out,
+//! waiting, or gone. Beside the seats stand how many processes run, are over, were stopped by a fault or have `terminate` among
+//! their alternatives, and the numbers of those that are ready, in the order in which they became so (`AreKept` in
+//! `specs/Counted`): a count changes where a standing does. The pending calls stand in the queues of cc_queue, and who waits for
+//! each in a map beside them (`specs/Asked`). The state of the machine isn't stored. It is the run of the journal, and the
+//! kernel's invariant says that what is kept is that state (`IsState` in `specs/Store`, `IsKept` in `specs/Invariant`).
 //!
 //! A step has three parts: what the process asks is performed (`perform`), the journal says so, and the machine settles
-//! (`settle`): as long as there is one, a call is taken that can be, or an immediate alternative where no call can; then the
-//! collective end comes where it is due. Each of these turns one process that waits at a `select` into one that runs, so there
-//! are at most as many as there are seats, and the end is one more.
+//! (`settle`).
+//!
+//! Before a step no process can take anything: no pending call is eligible for one of its open alternatives, and none of them is
+//! immediate (`AllRest` in `specs/Resting`). An Ask changes that for one process at most. A `select` opens alternatives for who
+//! asks it; a call and a `send` add a call that is eligible for its target alone. Every other request opens no alternative and
+//! adds no call: it lets processes go on, which have no open alternatives then, and takes calls away, by which none becomes
+//! eligible. So settling looks at that process alone (`roused_by`): it takes the call that is chosen for the first of its
+//! alternatives for which one is eligible, or its immediate alternative where there is none. By that it goes on and a call is
+//! gone, so that again no process can take anything. Then a process waits at `terminate` exactly where that is one of its
+//! alternatives, and whether the collective end is due is told by the counts. So a step has at most three events: the Ask, one by
+//! which a process takes something, and the End.
 //!
 //! The requests have no deadline (`specs/Untimed`): no timed call, no `delay`, and no `select` with a delay alternative. So
-//! nothing expires and no call is withdrawn, and a state is settled in which nothing can be taken and the end is not due.
+//! nothing expires and no call is withdrawn.
 //!
-//! All memory of a step is taken before it (`prepare`), so that no step is ever half done: room for the events, for one more
-//! pending call, for as many served calls as are pending, for one more seat, the process that a Create makes, and the value
-//! of a Reply with enough zeros at its end.
+//! All memory of a step is taken before it (`prepare`), so that no step is ever half done: room for three events, for one more
+//! pending call, one more served call and one more seat, the process that a Create makes, and the value of a Reply with enough
+//! zeros at its end.
 //!
-//! `pick` and `state` take constant time, and the process that has been ready for longest is picked. What a step costs grows
-//! with the processes, the pending calls and the served ones, and not with the journal: a Reply, an end and a fault walk the served calls; and `settle` holds each pending call whose
-//! target waits at a `select` against every other one, and each process that waits there against the pending calls, once
-//! more after each event.
+//! `pick` and `state` take constant time, and the process that has been ready for longest is picked. A step takes the time to
+//! compare the pending calls of the transactions that the process accepts at its `select`, or to drop the calls of a process that
+//! is over; a Reply, and a process that is over, walk the served calls; the End, which comes once, walks the seats.
 #![tactic(auto)]
 
 mod asks;
-mod calls;
 mod choice;
 mod counts;
 mod faults;
 mod kernel;
 mod need;
+mod pending;
 mod perform;
 mod prepare;
 mod seat;

@@ -2,6 +2,7 @@ ghost use Rattle.std.specs.Prelude.{◌≡◌, ◌≢◌, MatchOption, ◌+◌, 
 ghost use Rattle.cc_kernel.specs.Untimed.{HasNoDeadline};
 ghost use Rattle.cc_kernel.specs.Contract.{Answering, Making, IsEnoughFor, SameOuts};
 ghost use Rattle.cc_kernel.specs.Invariant.{IsReadyFor, prepared_for};
+ghost use Rattle.cc_kernel.specs.Resting.{AllRest, RestBut, roused_by};
 ghost use Rattle.cc_kernel.specs.Store.{IsLocated, IsState, contents};
 ghost use Rattle.cc_kernel.specs.Seats.{is_out, is_ready, seat_at};
 ghost use Rattle.cc_kernel.specs.declared.need.Need.TheVariants as variant;
@@ -34,7 +35,7 @@ fn reply<B: Behave>(
     ensures drawn { store.new.drawn ≡ store.old.drawn }
     ensures outs { map is_out store.new.seats.items ≡ set (map is_out store.old.seats.items) pid.0 false }
     ensures room { store.old.served.spare ≤ store.new.served.spare }
-    ensures calls { store.new.pending.items ≡ store.old.pending.items }
+    ensures rest { AllRest (B.means code.now) (contents store.old) → AllRest (B.means code.now) (contents store.new) }
 {
     store.seats.put_ready(pid.0 as usize, process, Grant::Go);
     let Some(call) = store.served.take_innermost(pid) else {
@@ -58,6 +59,7 @@ fn change_store<B: Behave>(
     requires calls { 0 < store.old.pending.spare }
     requires seats { 0 < store.old.seats.spare }
     requires few { store.old.drawn < 4294967295 }
+    requires last { All (λ call. call.number.0 < store.old.drawn) store.old.pending.items }
     requires no_deadline { HasNoDeadline request }
     requires enough { IsEnoughFor (prepared_for need) request }
     requires ready { (events : ℕ) × IsReadyFor (B.means code.now) (B.at code.now) store.old events need }
@@ -67,8 +69,7 @@ fn change_store<B: Behave>(
     ensures drawn { store.new.drawn ≤ store.old.drawn + 1 }
     ensures outs { SameOuts (map is_out store.new.seats.items) (set (map is_out store.old.seats.items) pid.0 false) }
     ensures room { store.old.served.spare ≤ store.new.served.spare }
-    ensures calls { length store.new.pending.items ≤ length store.old.pending.items + 1 }
-    ensures places { length store.new.seats.items ≤ length store.old.seats.items + 1 }
+    ensures rest { AllRest (B.means code.now) (contents store.old) → RestBut (B.means code.now) (contents store.new) (roused_by pid request) }
 {
     match request {
         Request::Print { bytes: _bytes } => asks::go_on(store, pid, process, Grant::Go),
@@ -121,6 +122,7 @@ pub(crate) fn perform<B: Behave>(
     requires calls { 0 < store.old.pending.spare }
     requires seats { 0 < store.old.seats.spare }
     requires few { store.old.drawn < 4294967295 }
+    requires last { All (λ call. call.number.0 < store.old.drawn) store.old.pending.items }
     requires no_deadline { HasNoDeadline request }
     requires enough { IsEnoughFor (prepared_for need) request }
     requires ready { (events : ℕ) × IsReadyFor (B.means code.now) (B.at code.now) store.old events need }
@@ -130,8 +132,7 @@ pub(crate) fn perform<B: Behave>(
     ensures drawn { store.new.drawn ≤ store.old.drawn + 1 }
     ensures outs { SameOuts (map is_out store.new.seats.items) (set (map is_out store.old.seats.items) pid.0 false) }
     ensures room { store.old.served.spare ≤ store.new.served.spare }
-    ensures calls { length store.new.pending.items ≤ length store.old.pending.items + 1 }
-    ensures places { length store.new.seats.items ≤ length store.old.seats.items + 1 }
+    ensures rest { AllRest (B.means code.now) (contents store.old) → RestBut (B.means code.now) (contents store.new) (roused_by pid request) }
     ensures bytes { result ≡ bytes_of request }
 {
     match request {
@@ -170,5 +171,19 @@ fn answer<P: Drop>(need: Need<P>) -> Option<Cells>
             zeros: _zeros,
         } => Some(value),
         _other => None,
+    }
+}
+
+/// Whom what the process asks may let take something that he could not take before: the target of a call, and who waits for an
+/// alternative himself.
+pub(crate) fn roused_by(pid: Pid, request: &Request) -> Option<Pid>
+    ensures { result ≡ roused_by pid request.now }
+{
+    match request {
+        Request::Call { target, .. } => Some(*target),
+        Request::TimedCall { target, .. } => Some(*target),
+        Request::Send { target, .. } => Some(*target),
+        Request::Select { .. } => Some(pid),
+        _ => None,
     }
 }

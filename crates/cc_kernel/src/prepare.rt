@@ -1,6 +1,5 @@
-ghost use Rattle.std.specs.Prelude.{◌≡◌, ◌+◌, ◌<◌, ◌≤◌, ◌++◌, ℕ, ℤ, List, All, IfNone, IfOk, IfSome, OnOk, length, pos, replicate};
+ghost use Rattle.std.specs.Prelude.{◌≡◌, ◌<◌, ◌≤◌, ◌++◌, ℕ, ℤ, List, All, IfNone, IfOk, IfSome, OnOk, length, pos, replicate};
 ghost use Rattle.cc_base.specs.Grants.{HasKind};
-ghost use Rattle.cc_base.specs.Limits.{most_processes};
 ghost use Rattle.cc_base.specs.declared.request.Request.TheVariants.{Create};
 ghost use Rattle.cc_kernel.specs.Contract.{IsEnoughFor, Moment};
 ghost use Rattle.cc_kernel.specs.Invariant.{HasRoom, IsReadyFor, prepared_for};
@@ -18,17 +17,14 @@ use std::sync::Arc;
 
 /// Makes room for the events, the calls and the process of one step.
 pub(crate) fn make_room<P: Drop>(store: &mut Store<P>, journal: &mut Journal) -> Result<(), Memory>
-    requires pending { length store.old.pending.items ≤ store.old.drawn }
-    requires few { length store.old.seats.items ≤ most_processes }
     ensures contents { contents store.new ≡ contents store.old }
     ensures items { journal.new.items ≡ journal.old.items }
     ensures ok { OnOk result (HasRoom store.new journal.new.spare) }
     ensures room { HasRoom store.old journal.old.spare → HasRoom store.new journal.new.spare }
 {
-    let pending = store.pending.len();
-    journal.reserve(store.seats.len() + 3)?;
-    store.pending.reserve(1)?;
-    store.served.reserve(pending + 1)?;
+    journal.reserve(3)?;
+    store.pending.reserve_one()?;
+    store.served.reserve(1)?;
     store.seats.reserve_one()
 }
 

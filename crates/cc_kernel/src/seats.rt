@@ -1,19 +1,19 @@
 ghost use Rattle.std.specs.Prelude.{◌≡◌, [], ◌∷◌, ◌++◌, ◌+◌, ◌<◌, ◌≤◌, length, map, set, ℕ, true, false, OnOk, OnErr, MatchOption, not, if◌then◌else◌};
-ghost use Rattle.std.specs.List.{filter, list_all, list_any};
-ghost use Rattle.cc_rules.specs.Effects.{is_for, waits_for};
+ghost use Rattle.std.specs.List.{enumerate_from, filter, list_all, list_any};
+ghost use Rattle.cc_rules.specs.Effects.{waits_for};
 ghost use Rattle.cc_rules.specs.State.{is_faulted, is_over, is_running};
-ghost use Rattle.cc_kernel.specs.Seats.{answered_seats, gone_seats, is_ready, is_served_by, seat_at, served_call, with_left, with_out, with_ready, with_waiting, woken};
+ghost use Rattle.cc_kernel.specs.Seats.{answered_seats, gone_seats, is_ready, is_served_by, seat_at, with_left, with_out, with_ready, with_waiting, woken};
 ghost use Rattle.cc_base.specs.Limits.{most_processes};
 ghost use Rattle.std.specs.VecDeque.{deque_capacity};
-ghost use Rattle.cc_kernel.specs.Counted.{Agrees, IsWaiting};
+ghost use Rattle.cc_kernel.specs.Counted.{Agrees, IsWaiting, all_may_end, ended_seat, may_terminate};
 ghost use Rattle.cc_kernel.specs.declared.seat.Whereabouts.TheVariants.{Ready};
 ghost use Rattle.cc_rules.specs.declared.process.ProcessStanding.TheVariants.{Ended};
 
-use crate::counts::Counts;
+use crate::counts::{Counts, may_terminate};
 use crate::seat::{Seat, Whereabouts};
-use crate::served::{ServedCall, served_call};
+use crate::served::ServedCall;
 use cc_base::{CallId, Grant, Memory, Pid};
-use cc_rules::{ProcessStanding, TransactionCall};
+use cc_rules::ProcessStanding;
 use std::alloc::Global;
 use std::collections::VecDeque;
 use std::marker::Model;
@@ -241,17 +241,6 @@ impl<P: Drop> Seats<P> {
         }
     }
 
-    /// The caller of each call that is pending at the target, where one waits, goes on with Gone.
-    pub(crate) fn gone_pending(&mut self, target: Pid, calls: &[TransactionCall])
-        ensures { self.new.items ≡ gone_seats self.old.items (map served_call (filter (is_for target.0) calls.now)) }
-    {
-        for call in calls {
-            if call.target.0 == target.0 {
-                self.answer(served_call(call), Grant::Gone);
-            }
-        }
-    }
-
     /// Whether the process was made, and neither has ended nor was stopped.
     pub(crate) fn is_there(&self, pid: Pid) -> bool
         ensures { result ≡ not (is_over (seat_at self.now.items pid.0).standing) }
@@ -259,6 +248,43 @@ impl<P: Drop> Seats<P> {
         match self.standing(pid.0 as usize) {
             None => false,
             Some(standing) => !standing.is_over(),
+        }
+    }
+
+    /// Whether the process waits for an alternative where `terminate` is one.
+    pub(crate) fn may_terminate(&self, at: usize) -> bool
+        ensures { result ≡ may_terminate (seat_at self.now.items at).standing }
+    {
+        match self.standing(at) {
+            None => false,
+            Some(standing) => may_terminate(standing),
+        }
+    }
+
+    /// Whether each process is over or has `terminate` among its alternatives, and one has.
+    pub(crate) fn all_may_end(&self) -> bool
+        ensures { result ≡ all_may_end self.now.items }
+    {
+        let all = self.counts.over + self.counts.terminating == self.items.len();
+        all && self.counts.terminating > 0
+    }
+
+    /// Each process that has `terminate` among its alternatives has ended.
+    pub(crate) fn end_terminating(&mut self)
+        ensures { self.new.items ≡ map ended_seat (enumerate_from 0 self.old.items) }
+    {
+        for at in 0..self.len() {
+            self.end_where_terminating(at);
+        }
+    }
+
+    // The process has ended, where it has `terminate` among its alternatives.
+    fn end_where_terminating(&mut self, at: usize)
+        requires { at < length self.old.items }
+        ensures { self.new.items ≡ (if may_terminate (seat_at self.old.items at).standing then set self.old.items at (with_left Ended) else self.old.items) }
+    {
+        if self.may_terminate(at) {
+            self.end(at);
         }
     }
 

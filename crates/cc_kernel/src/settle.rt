@@ -1,145 +1,135 @@
-//! The machine settles: calls are taken, immediate alternatives where no call is, and the collective end where it is due.
-ghost use Rattle.std.specs.Prelude.{◌≡◌, ◌+◌, ◌<◌, ◌≤◌, MatchOption, get_or, if◌then◌else◌, length, map, set};
-ghost use Rattle.std.specs.List.{enumerate_from};
-ghost use Rattle.cc_base.specs.Limits.{most_processes};
-ghost use Rattle.cc_kernel.specs.Choice.{after_end, seat_waits};
-ghost use Rattle.cc_kernel.specs.Store.{IsState, accepted_contents, chose_contents, contents, ended_contents};
+//! The machine settles: whoever was roused takes a call, or an immediate alternative where no call is eligible, and the collective
+//! end comes where it is due.
+ghost use Rattle.std.specs.Prelude.{◌≡◌, ◌<◌, ◌≤◌, IfNone, IfSome, MatchOption, Some, length, map};
 ghost use Rattle.cc_kernel.specs.Counted.{IsWaiting};
-ghost use Rattle.cc_kernel.specs.Seats.{count_selecting, is_out, no_call, seat_at, with_left};
-ghost use Rattle.cc_kernel.specs.Settles.{GoesOn, IsCalm, Settles, TakesOne};
+ghost use Rattle.cc_kernel.specs.Resting.{AllRest, RestBut, RestsAt};
+ghost use Rattle.cc_kernel.specs.Seats.{is_out, seat_at};
+ghost use Rattle.cc_kernel.specs.Settles.{GoesOn, Settles, TakesOne};
+ghost use Rattle.cc_kernel.specs.Store.{IsState, accepted_contents, chose_contents, contents, ended_contents};
+ghost use Rattle.cc_rules.specs.Choice.{call_numbered};
 ghost use Rattle.cc_rules.specs.State.{State};
-ghost use Rattle.cc_rules.specs.declared.process.ProcessStanding.TheVariants.{Ended};
+ghost use Rattle.cc_rules.specs.declared.process.TransactionCall.{TransactionCall};
 
-use crate::choice::{find, find_at_once, is_due, waits_at_terminate};
-use crate::seats::Seats;
+use crate::choice::{Taking, what_it_takes};
+use crate::pending::Pending;
 use crate::served::served_call;
 use crate::store::Store;
 use cc_base::{Behave, CallId, Grant, Pid};
-use cc_rules::{Event, Journal, TransactionCall};
+use cc_rules::{Event, Journal};
+use std::alloc::Global;
 
-// The target of the pending call at this index takes it by its alternative.
-fn accept<P: Drop>(store: &mut Store<P>, at: usize, alt: u32) -> (Pid, CallId)
-    requires within { at < length store.old.pending.items }
-    requires there { (get_or store.old.pending.items at no_call).target.0 < length store.old.seats.items }
-    requires waits { IsWaiting (seat_at store.old.seats.items (get_or store.old.pending.items at no_call).target.0).standing }
+// The process takes the pending call of this number by its alternative.
+fn accept<P: Drop>(store: &mut Store<P>, pid: Pid, alt: u32, number: CallId)
+    requires call { (call : TransactionCall) × (call_numbered store.old.pending.items number.0 ≡ Some call) }
+    requires within { pid.0 < length store.old.seats.items }
+    requires waits { IsWaiting (seat_at store.old.seats.items pid.0).standing }
     requires room { 0 < store.old.served.spare }
-    ensures contents { contents store.new ≡ accepted_contents (contents store.old) at alt }
-    ensures target { result.0 ≡ (get_or store.old.pending.items at no_call).target }
-    ensures number { result.1 ≡ (get_or store.old.pending.items at no_call).number }
-    ensures room { store.old.served.spare ≤ store.new.served.spare + 1 }
-    ensures fewer { length store.new.pending.items + 1 ≡ length store.old.pending.items }
+    ensures contents { (call : TransactionCall) → call_numbered store.old.pending.items number.0 ≡ Some call → contents store.new ≡ accepted_contents (contents store.old) pid.0 alt call }
+    ensures input { store.new.input ≡ store.old.input }
+    ensures drawn { store.new.drawn ≡ store.old.drawn }
 {
-    let call = store.pending.take(at);
+    let Some(call) = store.pending.take(number) else {
+        unreachable!()
+    };
     let served = served_call(&call);
     let args = call.args;
-    store
-        .seats
-        .wake(served.target.0 as usize, Grant::Took { alt, args });
+    store.seats.wake(pid.0 as usize, Grant::Took { alt, args });
     store.served.add(served);
-    (served.target, served.number)
 }
 
 // The process takes its immediate alternative.
-fn choose<P: Drop>(store: &mut Store<P>, at: usize, alt: u32)
-    requires within { at < length store.old.seats.items }
-    requires waits { IsWaiting (seat_at store.old.seats.items at).standing }
-    ensures contents { contents store.new ≡ chose_contents (contents store.old) at alt }
-    ensures room { store.new.served.spare ≡ store.old.served.spare }
+fn choose<P: Drop>(store: &mut Store<P>, pid: Pid, alt: u32)
+    requires within { pid.0 < length store.old.seats.items }
+    requires waits { IsWaiting (seat_at store.old.seats.items pid.0).standing }
+    ensures contents { contents store.new ≡ chose_contents (contents store.old) pid.0 alt }
 {
-    store.seats.wake(at, Grant::Chose { alt });
+    store.seats.wake(pid.0 as usize, Grant::Chose { alt });
 }
 
-// A call is taken that can be, or an immediate alternative where none can.
-fn take_one<B: Behave>(code: &B, store: &mut Store<B::Proc>) -> Option<Event>
-    requires few { length store.old.seats.items ≤ most_processes }
-    requires room { length store.old.pending.items ≤ store.old.served.spare }
-    ensures none { MatchOption result ((s : State) → IsState (B.at code.now) s (contents store.old) → IsCalm (B.means code.now) s) (λ e. (s : State) → IsState (B.at code.now) s (contents store.old) → TakesOne (B.means code.now) (B.at code.now) s e (contents store.new)) }
-    ensures same { MatchOption result (store.new ≡ store.old) (λ e. count_selecting store.new.seats.items < count_selecting store.old.seats.items) }
-    ensures few { length store.new.seats.items ≡ length store.old.seats.items }
-    ensures room { length store.new.pending.items ≤ store.new.served.spare }
+// The process takes a call, or an immediate alternative where no call is eligible; none exactly where it can take nothing.
+fn take_one<B: Behave>(code: &B, store: &mut Store<B::Proc>, pid: Pid) -> Option<Event>
+    requires room { 0 < store.old.served.spare }
+    ensures none { IfNone result (RestsAt (B.means code.now) (contents store.old) pid.0) }
+    ensures same { IfNone result (store.new ≡ store.old) }
+    ensures takes { IfSome result (λ e. (s : State) → IsState (B.at code.now) s (contents store.old) → TakesOne (B.means code.now) (B.at code.now) s e (contents store.new)) }
+    ensures rest { IfSome result (λ e. RestBut (B.means code.now) (contents store.old) (Some pid) → AllRest (B.means code.now) (contents store.new)) }
     ensures outs { map is_out store.new.seats.items ≡ map is_out store.old.seats.items }
     ensures input { store.new.input ≡ store.old.input }
     ensures drawn { store.new.drawn ≡ store.old.drawn }
 {
-    if let Some((at, alt)) = find(code, &store.seats, store.pending.as_slice()) {
-        let (pid, call) = accept(store, at, alt);
-        return Some(Event::Accept { pid, alt, call });
+    match what_it_takes(code, &store.seats, &store.pending, pid) {
+        None => None,
+        Some(Taking::Call { alt, number }) => {
+            accept(store, pid, alt, number);
+            Some(Event::Accept {
+                pid,
+                alt,
+                call: number,
+            })
+        }
+        Some(Taking::AtOnce { alt }) => {
+            choose(store, pid, alt);
+            Some(Event::Instant { pid, alt })
+        }
     }
-    let Some((at, alt)) = find_at_once(code, &store.seats, store.pending.as_slice()) else {
-        return None;
-    };
-    choose(store, at, alt);
-    Some(Event::Instant {
-        pid: Pid(at as u32),
-        alt,
-    })
 }
 
-// Takes calls and immediate alternatives until there is none to take, and says so in the journal.
-fn take_all<B: Behave>(code: &B, store: &mut Store<B::Proc>, journal: &mut Journal)
-    requires few { length store.old.seats.items ≤ most_processes }
-    requires events { count_selecting store.old.seats.items + 1 ≤ journal.old.spare }
-    requires room { length store.old.pending.items ≤ store.old.served.spare }
+// Who was roused takes what he can, and the journal says so.
+fn take_roused<B: Behave>(
+    code: &B,
+    store: &mut Store<B::Proc>,
+    journal: &mut Journal,
+    roused: Option<Pid>,
+)
+    requires events { 2 ≤ journal.old.spare }
+    requires room { 0 < store.old.served.spare }
+    requires rest { RestBut (B.means code.now) (contents store.old) roused }
     ensures goes_on { (s : State) → IsState (B.at code.now) s (contents store.old) → GoesOn (B.means code.now) (B.at code.now) s journal.old.items journal.new.items (contents store.new) }
-    ensures calm { (s : State) → IsState (B.at code.now) s (contents store.new) → IsCalm (B.means code.now) s }
+    ensures rest { AllRest (B.means code.now) (contents store.new) }
     ensures spare { 0 < journal.new.spare }
     ensures outs { map is_out store.new.seats.items ≡ map is_out store.old.seats.items }
     ensures input { store.new.input ≡ store.old.input }
     ensures drawn { store.new.drawn ≡ store.old.drawn }
 {
-    while let Some(event) = take_one(code, store) {
-        journal.add(event);
-    }
-}
-
-// Whoever waits at `terminate` has ended.
-fn end_waiting<B: Behave>(code: &B, seats: &mut Seats<B::Proc>, calls: &[TransactionCall])
-    ensures { seats.new.items ≡ map (after_end (B.means code.now) seats.old.items calls.now) (enumerate_from 0 seats.old.items) }
-{
-    for at in 0..seats.len() {
-        end_where_waiting(code, seats, at, calls);
-    }
-}
-
-// The process has ended, where it waits at `terminate`.
-fn end_where_waiting<B: Behave>(
-    code: &B,
-    seats: &mut Seats<B::Proc>,
-    at: usize,
-    calls: &[TransactionCall],
-)
-    requires { at < length seats.old.items }
-    ensures { seats.new.items ≡ (if seat_waits (B.means code.now) seats.old.items calls.now at then set seats.old.items at (with_left Ended) else seats.old.items) }
-{
-    if waits_at_terminate(code, seats, at, calls) {
-        seats.end(at);
-    }
+    let Some(pid) = roused else {
+        return;
+    };
+    let Some(event) = take_one(code, store, pid) else {
+        return;
+    };
+    journal.add(event);
 }
 
 // The collective end comes.
-fn end_all<B: Behave>(code: &B, store: &mut Store<B::Proc>)
+fn end_all<B: Behave>(code: &B, alloc: Global, store: &mut Store<B::Proc>)
+    requires rest { AllRest (B.means code.now) (contents store.old) }
     ensures contents { contents store.new ≡ ended_contents (B.means code.now) (contents store.old) }
 {
-    store
-        .served
-        .drop_waiting(code, &store.seats, store.pending.as_slice());
-    end_waiting(code, &mut store.seats, store.pending.as_slice());
-    store.pending.clear();
+    store.served.drop_terminating(&store.seats);
+    store.seats.end_terminating();
+    store.pending = Pending::new(alloc);
 }
 
-/// The machine settles, and the journal says so.
-pub(crate) fn settle<B: Behave>(code: &B, store: &mut Store<B::Proc>, journal: &mut Journal)
-    requires few { length store.old.seats.items ≤ most_processes }
-    requires events { count_selecting store.old.seats.items + 1 ≤ journal.old.spare }
-    requires room { length store.old.pending.items ≤ store.old.served.spare }
+/// The machine settles, and the journal says so. No process but that which was roused can take anything before.
+pub(crate) fn settle<B: Behave>(
+    code: &B,
+    alloc: Global,
+    store: &mut Store<B::Proc>,
+    journal: &mut Journal,
+    roused: Option<Pid>,
+)
+    requires events { 2 ≤ journal.old.spare }
+    requires room { 0 < store.old.served.spare }
+    requires rest { RestBut (B.means code.now) (contents store.old) roused }
     ensures settles { (s : State) → IsState (B.at code.now) s (contents store.old) → Settles (B.means code.now) (B.at code.now) s journal.old.items journal.new.items (contents store.new) }
+    ensures rest { AllRest (B.means code.now) (contents store.new) }
     ensures outs { (s : State) → IsState (B.at code.now) s (contents store.old) → map is_out store.new.seats.items ≡ map is_out store.old.seats.items }
     ensures input { store.new.input ≡ store.old.input }
     ensures drawn { store.new.drawn ≡ store.old.drawn }
 {
-    take_all(code, store, journal);
-    if is_due(code, &store.seats, store.pending.as_slice()) {
-        end_all(code, store);
+    take_roused(code, store, journal, roused);
+    if store.seats.all_may_end() {
+        end_all(code, alloc, store);
         journal.add(Event::End);
     }
 }

@@ -1,5 +1,6 @@
-use crate::calls::{Pending, Served};
+use crate::pending::Pending;
 use crate::seats::Seats;
+use crate::served::Served;
 use cc_base::Bytes;
 
 /// What the kernel keeps of the state that the machine is in.

@@ -310,15 +310,15 @@ const MEETING: [Event; 9] = [
         word: Word::Reply,
     },
     Event::Ask {
+        pid: Pid(1),
+        word: Word::Done,
+    },
+    Event::Ask {
         pid: Pid(0),
         word: Word::Print,
     },
     Event::Ask {
         pid: Pid(0),
-        word: Word::Done,
-    },
-    Event::Ask {
-        pid: Pid(1),
         word: Word::Done,
     },
 ];
@@ -398,7 +398,7 @@ fn by_hand(alloc: Global, code: Arc<Early>, pids: &[u32]) -> Result<Hand, Memory
 #[test]
 fn a_kernel_of_two_processes_is_driven_by_hand(rt: HostRuntime) {
     let code = straight(&rt, rt.alloc(), rendezvous(rt.alloc()));
-    let hand = by_hand(rt.alloc(), code, &[0, 0, 1, 1, 1, 0, 0, 1]).expect(&rt, "memory");
+    let hand = by_hand(rt.alloc(), code, &[0, 0, 1, 1, 1, 1, 0, 0]).expect(&rt, "memory");
     assert!(rt; hand.before == Standing::Going && hand.went);
     assert!(rt; hand.after == Standing::Ended { faulted: false });
     assert!(rt; hand.printed.as_slice() == b"AB".as_slice());

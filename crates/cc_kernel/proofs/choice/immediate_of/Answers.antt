@@ -2,7 +2,6 @@ use Rattle.std.proofs.Common.{sym, ap, ◌∙◌, false}
 use Rattle.std.specs.Option.{option_map_or}
 use Rattle.cc_kernel.proofs.Chosen.{numbered-is}
 use Rattle.cc_kernel.proofs.Loops.{any-more, any-whole}
-use Rattle.cc_kernel.proofs.Plain.{none-numbered}
 use Rattle.cc_rules.specs.Choice.{is_immediate}
 use Rattle.cc_kernel.proofs.choice.immediate_of.Goals as goal
 
@@ -18,5 +17,4 @@ loop-at-preserved c =
 
 pub returns : goal.returns
 returns c =
-    none-numbered is_immediate c.args.alts.now
-    (any-whole (λ a. is_immediate a.1) c.args.alts.now c.loop-at.at (rw c.len-at-end.ensures.len at c.loop-at-test.false) c.loop-at.invariant)
+    any-whole (λ a. is_immediate a.1) c.args.alts.now c.loop-at.at (rw c.len-at-end.ensures.len at c.loop-at-test.false) c.loop-at.invariant

@@ -1,11 +1,13 @@
-use Rattle.std.proofs.Common.{refl, ap, ◌∙◌, map, length}
+use Rattle.std.proofs.Common.{refl, ap, sym, subst, ◌∙◌, map, Some}
 use Rattle.std.specs.Prelude.{slice_get}
 use Rattle.std.proofs.lemmas.List.{map-set}
 use Rattle.cc_base.specs.declared.names.FaultKind.TheVariants.{TooMany}
 use Rattle.cc_base.specs.declared.request.Grant.TheVariants.{Go, Byte}
-use Rattle.cc_kernel.proofs.Requests.{answer-made, outs-left, start-made, state-asks-call, state-asks-create, state-asks-select, state-asks-send, outs-call, outs-create, outs-send, places-create, places-left, same-outs}
+use Rattle.cc_kernel.proofs.Requests.{answer-made, outs-left, start-made, state-asks-call, state-asks-create, state-asks-select, state-asks-send, outs-call, outs-create, outs-send, same-outs}
 use Rattle.cc_kernel.proofs.Simulates.{state-get, state-go, state-leave}
-use Rattle.cc_kernel.specs.Store.{contents}
+use Rattle.cc_kernel.proofs.Resting.{rest-call, rest-create, rest-left, rest-ready, rest-select, rest-send}
+use Rattle.cc_kernel.specs.Resting.{AllRest, RestBut}
+use Rattle.cc_kernel.specs.Store.{Contents, contents}
 use Rattle.cc_kernel.specs.Contract.{is_out_in}
 use Rattle.cc_kernel.specs.Seats.{is_out, with_ready, with_waiting}
 use Rattle.cc_rules.specs.declared.process.ProcessStanding.TheVariants.{AtSelect, Ended, Faulted}
@@ -104,12 +106,68 @@ pub returns-in-Fault-clause-outs : goal.returns-in-Fault-clause-outs
 returns-in-Fault-clause-outs g c =
     same-outs _ _ (ap (λ x. map is_out x.seats) c.leave-in-Fault.ensures.contents ∙ outs-left (contents c.args.store.now) c.args.pid.0 (Faulted c.in-Fault.kind))
 
-pub returns-in-Some-clause-places : goal.returns-in-Some-clause-places
-returns-in-Some-clause-places g c =
-    rw (ap (λ x. length x.seats) c.create.ensures.contents) (places-create (contents c.args.store.now) c.args.pid.0 c.args.process c.in-Some.new (Faulted TooMany) _)
+pub returns-in-Print-clause-rest : goal.returns-in-Print-clause-rest
+returns-in-Print-clause-rest g c all =
+    let m = g.B.Behave.means c.args.code.now in
+    let x = contents c.args.store.now in
+    let F : Contents g.row.B-Proc.Denot → Type 0 = λ y. AllRest m y in
+    rw c.in-Print.is (subst F (sym c.go_on.ensures.contents) (rest-ready m x.seats x.pending c.args.pid.0 c.args.process Go all))
 
-pub returns-in-Done-clause-places : goal.returns-in-Done-clause-places
-returns-in-Done-clause-places g c = rw (ap (λ x. length x.seats) c.leave.ensures.contents) (places-left (contents c.args.store.now) c.args.pid.0 Ended)
+pub returns-in-Pause-clause-rest : goal.returns-in-Pause-clause-rest
+returns-in-Pause-clause-rest g c all =
+    let m = g.B.Behave.means c.args.code.now in
+    let x = contents c.args.store.now in
+    let F : Contents g.row.B-Proc.Denot → Type 0 = λ y. AllRest m y in
+    rw c.in-Pause.is (subst F (sym c.go_on-in-Pause.ensures.contents) (rest-ready m x.seats x.pending c.args.pid.0 c.args.process Go all))
 
-pub returns-in-Fault-clause-places : goal.returns-in-Fault-clause-places
-returns-in-Fault-clause-places g c = rw (ap (λ x. length x.seats) c.leave-in-Fault.ensures.contents) (places-left (contents c.args.store.now) c.args.pid.0 (Faulted c.in-Fault.kind))
+pub returns-in-Some-clause-rest : goal.returns-in-Some-clause-rest
+returns-in-Some-clause-rest g c all =
+    let m = g.B.Behave.means c.args.code.now in
+    let x = contents c.args.store.now in
+    let F : Contents g.row.B-Proc.Denot → Type 0 = λ y. AllRest m y in
+    rw c.in-Create.is (subst F (sym c.create.ensures.contents) (rest-create m x c.args.pid.0 c.args.process c.in-Some.new (Faulted TooMany) _ refl all))
+
+pub returns-in-Call-clause-rest : goal.returns-in-Call-clause-rest
+returns-in-Call-clause-rest g c all =
+    let m = g.B.Behave.means c.args.code.now in
+    let x = contents c.args.store.now in
+    let F : Contents g.row.B-Proc.Denot → Type 0 = λ y. RestBut m y (Some c.in-Call.target) in
+    rw c.in-Call.is (subst F (sym c.call.ensures.contents) (rest-call m x c.args.pid c.args.process c.in-Call.target c.in-Call.trans c.in-Call.args _ all))
+
+pub returns-in-Send-clause-rest : goal.returns-in-Send-clause-rest
+returns-in-Send-clause-rest g c all =
+    let m = g.B.Behave.means c.args.code.now in
+    let x = contents c.args.store.now in
+    let F : Contents g.row.B-Proc.Denot → Type 0 = λ y. RestBut m y (Some c.in-Send.target) in
+    rw c.in-Send.is (subst F (sym c.send.ensures.contents) (rest-send m x c.args.pid c.args.process c.in-Send.target c.in-Send.trans c.in-Send.args _ all))
+
+pub returns-in-Select-clause-rest : goal.returns-in-Select-clause-rest
+returns-in-Select-clause-rest g c all =
+    let m = g.B.Behave.means c.args.code.now in
+    let x = contents c.args.store.now in
+    let F : Contents g.row.B-Proc.Denot → Type 0 = λ y. RestBut m y (Some c.args.pid) in
+    rw c.in-Select.is (subst F (sym c.select.ensures.contents) (rest-select m x c.args.pid c.args.process (AtSelect c.in-Select.alts c.args.store.now.moment) all))
+
+pub returns-in-Some-answer-clause-rest : goal.returns-in-Some-answer-clause-rest
+returns-in-Some-answer-clause-rest g c all = rw c.in-Reply.is (c.reply.ensures.rest all)
+
+pub returns-in-Get-clause-rest : goal.returns-in-Get-clause-rest
+returns-in-Get-clause-rest g c all =
+    let m = g.B.Behave.means c.args.code.now in
+    let x = contents c.args.store.now in
+    let F : Contents g.row.B-Proc.Denot → Type 0 = λ y. AllRest m y in
+    rw c.in-Get.is (subst F (sym c.get.ensures.contents) (rest-ready m x.seats x.pending c.args.pid.0 c.args.process (Byte (slice_get c.args.store.now.input c.args.store.now.taken)) all))
+
+pub returns-in-Done-clause-rest : goal.returns-in-Done-clause-rest
+returns-in-Done-clause-rest g c all =
+    let m = g.B.Behave.means c.args.code.now in
+    let x = contents c.args.store.now in
+    let F : Contents g.row.B-Proc.Denot → Type 0 = λ y. AllRest m y in
+    rw c.in-Done.is (subst F (sym c.leave.ensures.contents) (rest-left m x c.args.pid.0 Ended refl all))
+
+pub returns-in-Fault-clause-rest : goal.returns-in-Fault-clause-rest
+returns-in-Fault-clause-rest g c all =
+    let m = g.B.Behave.means c.args.code.now in
+    let x = contents c.args.store.now in
+    let F : Contents g.row.B-Proc.Denot → Type 0 = λ y. AllRest m y in
+    rw c.in-Fault.is (subst F (sym c.leave-in-Fault.ensures.contents) (rest-left m x c.args.pid.0 (Faulted c.in-Fault.kind) refl all))

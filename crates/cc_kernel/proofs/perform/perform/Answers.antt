@@ -1,9 +1,11 @@
-use Rattle.std.proofs.Common.{ap, ◌∙◌, map}
+use Rattle.std.proofs.Common.{ap, sym, subst, ◌∙◌, map}
 use Rattle.std.proofs.lemmas.List.{map-set}
 use Rattle.cc_base.specs.declared.request.Grant.TheVariants.{Go}
 use Rattle.cc_kernel.proofs.Requests.{same-outs}
 use Rattle.cc_kernel.proofs.Simulates.{state-go}
-use Rattle.cc_kernel.specs.Store.{contents}
+use Rattle.cc_kernel.proofs.Resting.{rest-ready}
+use Rattle.cc_kernel.specs.Resting.{AllRest}
+use Rattle.cc_kernel.specs.Store.{Contents, contents}
 use Rattle.cc_kernel.specs.Seats.{is_out, with_ready}
 use Rattle.cc_kernel.proofs.perform.perform.Goals as goal
 
@@ -15,3 +17,10 @@ returns-in-Print-clause-state g c s k a =
 pub returns-in-Print-clause-outs : goal.returns-in-Print-clause-outs
 returns-in-Print-clause-outs g c =
     same-outs _ _ (ap (λ x. map is_out x.seats) c.go_on.ensures.contents ∙ map-set is_out c.args.store.now.seats.items c.args.pid.0 (with_ready c.args.process Go))
+
+pub returns-in-Print-clause-rest : goal.returns-in-Print-clause-rest
+returns-in-Print-clause-rest g c all =
+    let m = g.B.Behave.means c.args.code.now in
+    let x = contents c.args.store.now in
+    let F : Contents g.row.B-Proc.Denot → Type 0 = λ y. AllRest m y in
+    rw c.in-Print.is (subst F (sym c.go_on.ensures.contents) (rest-ready m x.seats x.pending c.args.pid.0 c.args.process Go all))

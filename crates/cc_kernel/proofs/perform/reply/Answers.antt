@@ -1,10 +1,13 @@
-use Rattle.std.proofs.Common.{◌≡◌, ◌≤◌, ◌<◌, length, set, ◌∙◌, arith}
+use Rattle.std.proofs.Common.{◌≡◌, ◌≤◌, ◌<◌, ℕ, List, length, set, sym, subst, ◌∙◌, arith}
 use Rattle.std.proofs.lemmas.List.{map-set}
 use Rattle.cc_base.specs.declared.request.Grant.TheVariants.{Go, Value}
 use Rattle.cc_kernel.proofs.Replies.{cut-zeros, of-split, state-reply, state-reply-none, value-cells-is}
 use Rattle.cc_kernel.proofs.Outs.{outs-answered}
+use Rattle.cc_kernel.proofs.Resting.{rest-answered, rest-ready}
+use Rattle.cc_kernel.specs.Resting.{RestsSo}
 use Rattle.cc_kernel.specs.Store.{contents}
-use Rattle.cc_kernel.specs.Seats.{is_out, with_ready}
+use Rattle.cc_kernel.specs.Seats.{is_out, seat_at, with_ready}
+use Rattle.cc_kernel.specs.declared.seat.Seat.{Seat}
 use Rattle.cc_base.specs.Grants.{value_cells}
 use Rattle.cc_kernel.proofs.perform.reply.Goals as goal
 
@@ -38,3 +41,19 @@ returns-clause-outs g c =
     rw (c.answer.ensures, c.put_ready.ensures.items)
     (outs-answered (set c.args.store.now.seats.items c.args.pid.0 (with_ready c.args.process Go)) c.in-Some.call (Value c.cut.new.self)
     ∙ map-set is_out c.args.store.now.seats.items c.args.pid.0 (with_ready c.args.process Go))
+
+pub returns-in_default-clause-rest : goal.returns-in_default-clause-rest
+returns-in_default-clause-rest g c all =
+    let m = g.B.Behave.means c.args.code.now in
+    let x = contents c.args.store.now in
+    let F : List (Seat g.row.B-Proc.Denot) → Type 0 = λ seats. (p : ℕ) → RestsSo m p (seat_at seats p).standing x.pending in
+    subst F (sym c.put_ready.ensures.items) (rest-ready m x.seats x.pending c.args.pid.0 c.args.process Go all)
+
+pub returns-clause-rest : goal.returns-clause-rest
+returns-clause-rest g c all =
+    let m = g.B.Behave.means c.args.code.now in
+    let x = contents c.args.store.now in
+    let F : List (Seat g.row.B-Proc.Denot) → Type 0 = λ seats. (p : ℕ) → RestsSo m p (seat_at seats p).standing x.pending in
+    subst F (sym c.answer.ensures)
+    (rest-answered m c.put_ready.new.self.items x.pending c.in-Some.call (Value c.cut.new.self)
+    (subst F (sym c.put_ready.ensures.items) (rest-ready m x.seats x.pending c.args.pid.0 c.args.process Go all)))

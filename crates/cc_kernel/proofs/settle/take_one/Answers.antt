@@ -1,53 +1,87 @@
-use Rattle.std.proofs.Common.{get_or, ap, ◌∙◌, map}
-use Rattle.cc_kernel.proofs.Outs.{outs-woken}
-use Rattle.cc_kernel.proofs.Plain.{calm-contents}
-use Rattle.cc_kernel.proofs.Settling.{accepts-one, chooses-one, goes-waiting, takes-waiting}
-use Rattle.cc_kernel.specs.Store.{contents}
-use Rattle.cc_kernel.specs.Seats.{is_out, no_call, seat_at}
+use Rattle.std.proofs.Common.{ap, sym, subst, ◌∙◌, map}
+use Rattle.cc_base.specs.declared.alternatives.Alt.{Alt}
 use Rattle.cc_base.specs.declared.request.Grant.TheVariants.{Chose, Took}
+use Rattle.cc_kernel.proofs.Outs.{outs-woken}
+use Rattle.cc_kernel.proofs.Resting.{rest-accepted, rest-chose}
+use Rattle.cc_kernel.proofs.Settling.{accepts-one, chooses-one, goes-waiting, takes-waiting, waits-within}
+use Rattle.cc_kernel.specs.Seats.{is_out, seat_at}
+use Rattle.cc_kernel.specs.Resting.{AllRest}
+use Rattle.cc_kernel.specs.Store.{Contents, contents}
+use Rattle.cc_rules.specs.Choice.{is_chosen}
 use Rattle.cc_kernel.proofs.settle.take_one.Goals as goal
-
-pub returns-in-Some-clause-none : goal.returns-in-Some-clause-none
-returns-in-Some-clause-none g c = λ s k.
-    let found = rw c.as_slice.ensures at c.in-Some.ensures in
-    rw (c.accept.ensures.contents, c.accept.ensures.target, c.accept.ensures.number)
-    (accepts-one (g.B.Behave.means c.args.code.now) (g.B.Behave.at c.args.code.now) s (contents c.args.store.now) c.in-Some.at c.in-Some.alt k found.0 found.1)
-
-pub returns-in-Some-clause-outs : goal.returns-in-Some-clause-outs
-returns-in-Some-clause-outs g c =
-    let x = contents c.args.store.now in
-    let call = get_or x.pending c.in-Some.at no_call in
-    ap (λ y. map is_out y.seats) c.accept.ensures.contents ∙ outs-woken x.seats call.target.0 (Took c.in-Some.alt call.args)
-
-pub returns-in_default-find_at_once-clause-none : goal.returns-in_default-find_at_once-clause-none
-returns-in_default-find_at_once-clause-none g c = λ s k.
-    let m = g.B.Behave.means c.args.code.now in
-    let none = rw c.as_slice.ensures at c.in_default.ensures in
-    let none' = rw c.as_slice-2.ensures at c.in_default-find_at_once.ensures in
-    calm-contents m (g.B.Behave.at c.args.code.now) s (contents c.args.store.now) k none none'
-
-pub returns-clause-none : goal.returns-clause-none
-returns-clause-none g c = λ s k.
-    let found = rw c.as_slice-2.ensures at c.in-Some-find_at_once.ensures in
-    rw c.choose.ensures.contents
-    (chooses-one (g.B.Behave.means c.args.code.now) (g.B.Behave.at c.args.code.now) s (contents c.args.store.now) (record { 0 = c.in-Some-find_at_once.at }) c.in-Some-find_at_once.alt k found.0 found.1)
-
-pub returns-clause-outs : goal.returns-clause-outs
-returns-clause-outs g c =
-    let x = contents c.args.store.now in
-    ap (λ y. map is_out y.seats) c.choose.ensures.contents ∙ outs-woken x.seats c.in-Some-find_at_once.at (Chose c.in-Some-find_at_once.alt)
 
 pub accept-requires-clause-waits : goal.accept-requires-clause-waits
 accept-requires-clause-waits g c =
     let m = g.B.Behave.means c.args.code.now in
     let x = contents c.args.store.now in
-    let call = get_or x.pending c.in-Some.at no_call in
-    let found = rw c.as_slice.ensures at c.in-Some.ensures in
-    takes-waiting m (seat_at x.seats call.target.0).standing x.pending c.in-Some.alt call found.1
+    let can = rw c.in-Some-Call.field-0-is at c.in-Some-Call.ensures in
+    takes-waiting (λ (a : Alt). is_chosen m c.args.pid.0 a x.pending can.0) (seat_at x.seats c.args.pid.0).standing c.in-Some-Call.alt can.2
+
+pub accept-requires-clause-within : goal.accept-requires-clause-within
+accept-requires-clause-within g c =
+    let m = g.B.Behave.means c.args.code.now in
+    let x = contents c.args.store.now in
+    let can = rw c.in-Some-Call.field-0-is at c.in-Some-Call.ensures in
+    waits-within x.seats c.args.pid.0
+    (takes-waiting (λ (a : Alt). is_chosen m c.args.pid.0 a x.pending can.0) (seat_at x.seats c.args.pid.0).standing c.in-Some-Call.alt can.2).1
 
 pub choose-requires-clause-waits : goal.choose-requires-clause-waits
 choose-requires-clause-waits g c =
     let m = g.B.Behave.means c.args.code.now in
     let x = contents c.args.store.now in
-    let found = rw c.as_slice-2.ensures at c.in-Some-find_at_once.ensures in
-    goes-waiting m c.in-Some-find_at_once.at (seat_at x.seats c.in-Some-find_at_once.at).standing x.pending c.in-Some-find_at_once.alt found.1
+    goes-waiting m c.args.pid.0 (seat_at x.seats c.args.pid.0).standing x.pending c.in-Some-AtOnce.alt (rw c.in-Some-AtOnce.field-0-is at c.in-Some-AtOnce.ensures)
+
+pub choose-requires-clause-within : goal.choose-requires-clause-within
+choose-requires-clause-within g c =
+    let m = g.B.Behave.means c.args.code.now in
+    let x = contents c.args.store.now in
+    waits-within x.seats c.args.pid.0 (goes-waiting m c.args.pid.0 (seat_at x.seats c.args.pid.0).standing x.pending c.in-Some-AtOnce.alt (rw c.in-Some-AtOnce.field-0-is at c.in-Some-AtOnce.ensures)).1
+
+pub returns-in-Some-Call-clause-takes : goal.returns-in-Some-Call-clause-takes
+returns-in-Some-Call-clause-takes g c s k =
+    let m = g.B.Behave.means c.args.code.now in
+    let can = rw c.in-Some-Call.field-0-is at c.in-Some-Call.ensures in
+    rw (c.accept.ensures.contents can.0 can.1)
+    (accepts-one m (g.B.Behave.at c.args.code.now) s (contents c.args.store.now) c.args.pid c.in-Some-Call.alt c.in-Some-Call.number can.0 k can.1 can.2)
+
+pub returns-in-Some-Call-clause-rest : goal.returns-in-Some-Call-clause-rest
+returns-in-Some-Call-clause-rest g c rest =
+    let m = g.B.Behave.means c.args.code.now in
+    let x = contents c.args.store.now in
+    let can = rw c.in-Some-Call.field-0-is at c.in-Some-Call.ensures in
+    let F : Contents g.row.B-Proc.Denot → Type 0 = λ y. AllRest m y in
+    subst F (sym (c.accept.ensures.contents can.0 can.1))
+    (rest-accepted m x c.args.pid c.in-Some-Call.alt can.0
+    (waits-within x.seats c.args.pid.0
+    (takes-waiting (λ (a : Alt). is_chosen m c.args.pid.0 a x.pending can.0) (seat_at x.seats c.args.pid.0).standing c.in-Some-Call.alt can.2).1)
+    rest)
+
+pub returns-in-Some-Call-clause-outs : goal.returns-in-Some-Call-clause-outs
+returns-in-Some-Call-clause-outs g c =
+    let x = contents c.args.store.now in
+    let can = rw c.in-Some-Call.field-0-is at c.in-Some-Call.ensures in
+    ap (λ y. map is_out y.seats) (c.accept.ensures.contents can.0 can.1) ∙ outs-woken x.seats c.args.pid.0 (Took c.in-Some-Call.alt can.0.args)
+
+pub returns-in-Some-AtOnce-clause-takes : goal.returns-in-Some-AtOnce-clause-takes
+returns-in-Some-AtOnce-clause-takes g c s k =
+    let m = g.B.Behave.means c.args.code.now in
+    let x = contents c.args.store.now in
+    rw c.choose.ensures.contents
+    (chooses-one m (g.B.Behave.at c.args.code.now) s x c.args.pid c.in-Some-AtOnce.alt k
+    (waits-within x.seats c.args.pid.0 (goes-waiting m c.args.pid.0 (seat_at x.seats c.args.pid.0).standing x.pending c.in-Some-AtOnce.alt (rw c.in-Some-AtOnce.field-0-is at c.in-Some-AtOnce.ensures)).1)
+    (rw c.in-Some-AtOnce.field-0-is at c.in-Some-AtOnce.ensures))
+
+pub returns-in-Some-AtOnce-clause-rest : goal.returns-in-Some-AtOnce-clause-rest
+returns-in-Some-AtOnce-clause-rest g c rest =
+    let m = g.B.Behave.means c.args.code.now in
+    let x = contents c.args.store.now in
+    let F : Contents g.row.B-Proc.Denot → Type 0 = λ y. AllRest m y in
+    subst F (sym c.choose.ensures.contents)
+    (rest-chose m x c.args.pid c.in-Some-AtOnce.alt
+    (waits-within x.seats c.args.pid.0 (goes-waiting m c.args.pid.0 (seat_at x.seats c.args.pid.0).standing x.pending c.in-Some-AtOnce.alt (rw c.in-Some-AtOnce.field-0-is at c.in-Some-AtOnce.ensures)).1)
+    rest)
+
+pub returns-in-Some-AtOnce-clause-outs : goal.returns-in-Some-AtOnce-clause-outs
+returns-in-Some-AtOnce-clause-outs g c =
+    let x = contents c.args.store.now in
+    ap (λ y. map is_out y.seats) c.choose.ensures.contents ∙ outs-woken x.seats c.args.pid.0 (Chose c.in-Some-AtOnce.alt)

@@ -1,16 +1,15 @@
 use Rattle.std.proofs.Common.{arith, ℕ, ◌<◌, List, length, subst, ap, ◌∙◌}
-use Rattle.std.proofs.lemmas.List.Sums.{count_by-le-length}
 use Rattle.cc_kernel.proofs.Keeping.{all-served, kept-commit}
 use Rattle.cc_kernel.proofs.Known.{known-served}
 use Rattle.cc_kernel.proofs.Others.{others-stay, outs-run, prints-more, steps-on}
 use Rattle.cc_kernel.proofs.Outs.{out-at, out-not-ready}
 use Rattle.cc_kernel.proofs.Seated.{Seated-at, out-running}
+use Rattle.cc_kernel.proofs.Serving.{Rising-below}
 use Rattle.cc_kernel.proofs.Stands.{below-allowed, going-left}
 use Rattle.cc_kernel.specs.Store.{contents}
 use Rattle.cc_kernel.proofs.Readying.{has-room}
 use Rattle.cc_kernel.specs.Contract.{is_out_in}
-use Rattle.cc_kernel.specs.Seats.{is_at_select, seat_at}
-use Rattle.cc_kernel.specs.declared.seat.Seat.{Seat}
+use Rattle.cc_kernel.specs.Seats.{seat_at}
 use Rattle.cc_rules.specs.Effects.{effect}
 use Rattle.cc_rules.specs.Runs.{IsRun, state_after, turns}
 use Rattle.cc_rules.specs.State.{process_at}
@@ -34,25 +33,37 @@ perform-bytes-requires-clause-idle g c =
     let out = rw (← c.self.view_is) at c.requires.out in
     out-not-ready c.self.inside.store.seats.items c.args.pid.0 out.0
 
--- what is kept is the state after what is asked
-pub settle-requires-clause-few : goal.settle-requires-clause-few
-settle-requires-clause-few g c =
+-- each pending call has a number that was drawn
+pub perform-bytes-requires-clause-last : goal.perform-bytes-requires-clause-last
+perform-bytes-requires-clause-last g c =
     let k = c.self.inside in
     let s = state_after (g.B.Behave.means k.code.value) k.store.input k.journal.items in
-    let out = rw (← c.self.view_is) at c.requires.out in
-    let served = rw c.deref.ensures at c.perform-bytes.ensures.state in
-    (served s c.self.invariant.state out.1).few
+    let st = c.self.invariant.state in
+    rw (st.pending, st.drawn) (Rising-below 0 s.pending s.drawn st.rising)
 
 pub settle-requires-clause-events : goal.settle-requires-clause-events
 settle-requires-clause-events g c =
     let k = c.self.inside in
     let prepared = rw (← c.self.view_is) at c.requires.prepared in
     let room = has-room (g.B.Behave.means k.code.value) (g.B.Behave.at k.code.value) k.store k.journal.spare k.need c.args.request prepared c.self.invariant.ready in
-    let n = count_by-le-length (λ (seat : Seat g.row.B-Proc.Denot). is_at_select seat.standing) c.perform-bytes.new.store.seats.items in
     let a = c.add.ensures.spare in
-    let p = c.perform-bytes.ensures.places in
     let r = room.0 in
-    omega (arith, n, a, p, r)
+    omega (arith, a, r)
+
+pub settle-requires-clause-room : goal.settle-requires-clause-room
+settle-requires-clause-room g c =
+    let k = c.self.inside in
+    let prepared = rw (← c.self.view_is) at c.requires.prepared in
+    let room = has-room (g.B.Behave.means k.code.value) (g.B.Behave.at k.code.value) k.store k.journal.spare k.need c.args.request prepared c.self.invariant.ready in
+    let p = c.perform-bytes.ensures.room in
+    let r = room.1 in
+    omega (arith, p, r)
+
+-- none but whom it rouses can take anything
+pub settle-requires-clause-rest : goal.settle-requires-clause-rest
+settle-requires-clause-rest g c =
+    let rests = rw c.deref.ensures at c.perform-bytes.ensures.rest in
+    rw (c.deref-2.ensures, c.roused_by-roused.ensures) (rests c.self.invariant.rest)
 
 pub returns-clause-outs : goal.returns-clause-outs
 returns-clause-outs g c p =
@@ -94,6 +105,7 @@ invariant_of-self g c =
     c.settle.ensures.drawn
     (c.settle.ensures.input ∙ c.perform-bytes.ensures.input)
     (served (state_after (g.B.Behave.means k.code.value) k.store.input k.journal.items) inv.state out.1)
+    (rw c.deref-2.ensures at c.settle.ensures.rest)
     settles)
 
 pub returns-clause-runs : goal.returns-clause-runs

@@ -2,7 +2,7 @@ use Rattle.std.proofs.Common.{◌<◌, length, sym, ap, ◌∙◌, Bor}
 use Rattle.cc_base.specs.declared.request.Request.{Request}
 use Rattle.cc_kernel.proofs.Keeping.{all-served}
 use Rattle.cc_kernel.proofs.Known.{known-request, known-served}
-use Rattle.cc_kernel.proofs.Readying.{few-pending, kept-prepared, kind-asked, where-some}
+use Rattle.cc_kernel.proofs.Readying.{kept-prepared, kind-asked, where-some}
 use Rattle.cc_kernel.specs.Store.{contents}
 use Rattle.cc_rules.specs.Runs.{state_after}
 use Rattle.cc_kernel.proofs.kernel.Kernel.prepare.Goals as goal
@@ -27,14 +27,6 @@ need_of-requires-clause-known g c =
     (state_after (g.B.Behave.means k.code.value) k.store.input k.journal.items) (contents k.store) c.self.invariant.state
     (known-served (g.B.Behave.means k.code.value)
     (g.met.B.Behave.well_formed k.code.value) k.store.input k.journal.items c.self.invariant.runs))
-
-pub make_room-requires-clause-few : goal.make_room-requires-clause-few
-make_room-requires-clause-few g c = c.self.invariant.state.few
-
-pub make_room-requires-clause-pending : goal.make_room-requires-clause-pending
-make_room-requires-clause-pending g c =
-    let k = c.self.inside in
-    few-pending (g.B.Behave.means k.code.value) (g.B.Behave.at k.code.value) (state_after (g.B.Behave.means k.code.value) k.store.input k.journal.items) (contents k.store) c.self.invariant.state
 
 pub invariant_of-self-2 : goal.invariant_of-self-2
 invariant_of-self-2 g c =

@@ -1,7 +1,0 @@
-use Rattle.std.proofs.Common.{◌≡◌, false, take}
-use Rattle.std.specs.List.{list_any}
-use Rattle.cc_rules.specs.Choice.{is_immediate}
-use Rattle.cc_kernel.proofs.choice.has_immediate.Given as goal
-
-abbrev pub invariant-loop-at : goal.invariant-loop-at
-invariant-loop-at l = list_any (λ a. is_immediate a.1) (take l.at l.alts) ≡ false
