@@ -16,6 +16,6 @@ pub use nesting::{assign, refused};
 pub use operands::Operands;
 pub use simple::Simple;
 pub use starts::{
-    begins_assign, begins_control, begins_entry, begins_item, begins_jump, begins_operand,
-    begins_prefix, begins_statement, begins_store, begins_type,
+    begins_assign, begins_control, begins_entry, begins_item, begins_jump, begins_statement,
+    begins_type,
 };

@@ -14,7 +14,7 @@ use crate::leaves::{before, format, identifier};
 use crate::rows::postfix;
 use crate::simple::Simple;
 use crate::starts::begins_assign;
-use cc_grammar::{Expression, Field, Format, Step};
+use cc_grammar::{Expression, Format, Step};
 use cc_lex::{Mark, Word};
 use sqlite_items::{Boxed, Items};
 use std::alloc::Global;

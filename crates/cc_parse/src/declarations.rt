@@ -22,6 +22,7 @@ use cc_lex::{Mark, Word};
 use sqlite_items::Items;
 use std::alloc::{AllocError, Global};
 
+/// What each reader of declarations is given.
 #[derive(Clone, Copy)]
 pub struct Declarations {
     pub simple: Simple,

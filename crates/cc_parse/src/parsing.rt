@@ -44,7 +44,11 @@ fn too_deep(tokens: &Tokens, left: &Cursor<'_>) -> ParseError
     }
 }
 
-/// The tree of a text with these tokens, or why they are none.
+/// The tree of the text that has these tokens. All of them are read, and at most 200 phrases that add to the nesting hold each other.
+///
+/// `Syntax`: the tokens before number `at`, from 0, begin a text, and with that one they begin none; behind the last token, they
+/// begin a text and are none. `place` is that of this token, or of the text's end. `TooDeep`: the first token that too many phrases hold,
+/// where no token before it is a fault of syntax. `Memory`: out of memory.
 #[tactic(auto, using(crate::proofs::Answered::tree_of, crate::proofs::Answered::more_left))]
 pub fn parse(alloc: Global, tokens: &Tokens) -> Result<Tree, ParseError>
     ensures answer { Parses tokens.now result }

@@ -16,6 +16,7 @@ use cc_grammar::{Entry, Function, Item, Tree, TypeName};
 use cc_lex::{Mark, Word};
 use sqlite_items::Items;
 
+/// What each reader of items is given.
 #[derive(Clone, Copy)]
 pub struct Sources {
     pub simple: Simple,

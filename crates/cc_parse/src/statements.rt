@@ -16,6 +16,7 @@ use cc_lex::{Mark, Word};
 use sqlite_items::Boxed;
 use std::alloc::Global;
 
+/// What each reader of statements is given.
 #[derive(Clone, Copy)]
 pub struct Statements<A, S> {
     pub operands: Operands<A>,
