@@ -7,11 +7,9 @@ ghost use Rattle.cc_grammar.specs.Symbols as the;
 ghost use Rattle.std.specs.Prelude.{◌≡◌, length};
 
 use crate::declarations::Declarations;
-use crate::nesting::statement;
+use crate::nesting::{assign, statement};
 use crate::statements::Statements;
-use cc_expressions::{
-    Cursor, NAME, Operands, Simple, Stop, assign, begins_item, identifier, key, sign,
-};
+use cc_expressions::{Cursor, NAME, Operands, Simple, Stop, begins_item, identifier, key, sign};
 use cc_grammar::{Entry, Function, Item, Tree, TypeName};
 use cc_lex::{Mark, Word};
 use sqlite_items::Items;

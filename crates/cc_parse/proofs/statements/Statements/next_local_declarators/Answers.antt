@@ -4,7 +4,7 @@ use Rattle.cc_grammar.specs.Kinds.{mark_kind}
 use Rattle.cc_grammar.specs.Reading.{symbol}
 use Rattle.cc_grammar.specs.Symbols as the
 use Rattle.cc_expressions.proofs.Turns.{begun, turned}
-use Rattle.cc_parse.proofs.locals.Statements.next_local_declarators.Goals as goal
+use Rattle.cc_parse.proofs.statements.Statements.next_local_declarators.Goals as goal
 
 pub loop-turn-init : goal.loop-turn-init
 loop-turn-init g c =

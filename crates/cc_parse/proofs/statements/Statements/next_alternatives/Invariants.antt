@@ -4,7 +4,7 @@ use Rattle.cc_grammar.specs.Kinds.{word_kind}
 use Rattle.cc_grammar.specs.Reading.{loop, symbol}
 use Rattle.cc_grammar.specs.Symbols as the
 use Rattle.cc_expressions.specs.Turns.{from}
-use Rattle.cc_parse.proofs.selects.Statements.next_alternatives.Given as goal
+use Rattle.cc_parse.proofs.statements.Statements.next_alternatives.Given as goal
 
 abbrev pub invariant-loop-turn : goal.invariant-loop-turn
 invariant-loop-turn g l =

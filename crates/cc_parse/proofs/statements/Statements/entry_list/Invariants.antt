@@ -3,7 +3,7 @@ use Rattle.cc_grammar.specs.Begins.{entry_starts}
 use Rattle.cc_grammar.specs.Reading.{loop, symbol}
 use Rattle.cc_grammar.specs.Symbols as the
 use Rattle.cc_expressions.specs.Turns.{from}
-use Rattle.cc_parse.proofs.blocks.Statements.entry_list.Given as goal
+use Rattle.cc_parse.proofs.statements.Statements.entry_list.Given as goal
 
 abbrev pub invariant-loop-turn : goal.invariant-loop-turn
 invariant-loop-turn g l =
