@@ -4,9 +4,11 @@ ghost use Rattle.cc_expressions.specs.Nests.{Nests};
 ghost use Rattle.cc_expressions.specs.Steps.{Reads};
 ghost use Rattle.cc_grammar.specs.Reading.{symbol};
 ghost use Rattle.cc_grammar.specs.Symbols as the;
+ghost use Rattle.cc_grammar.specs.Trees as trees;
+ghost use Rattle.std.specs.Prelude.{◌≡◌};
 
-use crate::rows::if_statement;
 use crate::statements::Statements;
+use cc_base::Place;
 use cc_expressions::{Cursor, Stop, key, sign};
 use cc_grammar::{Expression, Statement};
 use cc_lex::{Mark, Word};
@@ -18,21 +20,24 @@ impl<
     S: Fn(Global, &mut Cursor<'_>, usize) -> Result<Statement, Stop>,
 > Statements<A, S> {
     #[tactic(auto, using(crate::proofs::Expand::otherwise_is))]
-    fn otherwise(&self, tokens: &mut Cursor<'_>) -> Result<Statement, Stop>
+    fn otherwise(&self, tokens: &mut Cursor<'_>) -> Result<Boxed<Statement>, Stop>
         requires statements { Nests the.statement self.now.operands.simple.room (S.pre self.now.statement) (S.post self.now.statement) }
         ensures { Reads (symbol self.now.operands.simple.room the.otherwise tokens.old) result tokens.new }
     {
         tokens.expect(key(Word::Else))?;
-        self.nested_statement(tokens)
+        self.boxed_statement(tokens)
     }
 
     /// The statement of an `if`, and that behind its `else`.
     #[tactic(auto, using(crate::proofs::Expand::branches_is))]
-    fn branches(&self, tokens: &mut Cursor<'_>) -> Result<(Statement, Option<Statement>), Stop>
+    fn branches(
+        &self,
+        tokens: &mut Cursor<'_>,
+    ) -> Result<(Boxed<Statement>, Option<Boxed<Statement>>), Stop>
         requires statements { Nests the.statement self.now.operands.simple.room (S.pre self.now.statement) (S.post self.now.statement) }
         ensures { Reads (symbol self.now.operands.simple.room the.branches tokens.old) result tokens.new }
     {
-        let then = self.nested_statement(tokens)?;
+        let then = self.boxed_statement(tokens)?;
         if tokens.sees(key(Word::Else)) {
             let otherwise = self.otherwise(tokens)?;
             Ok((then, Some(otherwise)))
@@ -50,23 +55,17 @@ impl<
         let place = tokens.expect(key(Word::If))?.place;
         let condition = self.operands.condition(tokens)?;
         let (then, otherwise) = self.branches(tokens)?;
-        Ok(if_statement(
-            self.operands.simple.alloc,
-            place,
-            condition,
-            then,
-            otherwise,
-        )?)
+        Ok(if_of(place, condition, then, otherwise))
     }
 
     #[tactic(auto, using(crate::proofs::Expand::while_loop_is))]
-    fn while_loop(&self, tokens: &mut Cursor<'_>) -> Result<(Expression, Statement), Stop>
+    fn while_loop(&self, tokens: &mut Cursor<'_>) -> Result<(Expression, Boxed<Statement>), Stop>
         requires assigns { Nests the.assign self.now.operands.simple.room (A.pre self.now.operands.assign) (A.post self.now.operands.assign) }
         requires statements { Nests the.statement self.now.operands.simple.room (S.pre self.now.statement) (S.post self.now.statement) }
         ensures { Reads (symbol self.now.operands.simple.room the.while_loop tokens.old) result tokens.new }
     {
         let condition = self.operands.condition(tokens)?;
-        let body = self.nested_statement(tokens)?;
+        let body = self.boxed_statement(tokens)?;
         Ok((condition, body))
     }
 
@@ -81,16 +80,16 @@ impl<
         Ok(Statement::While {
             place,
             condition,
-            body: Boxed::new(self.operands.simple.alloc, body)?,
+            body,
         })
     }
 
     #[tactic(auto, using(crate::proofs::Expand::do_body_is))]
-    fn do_body(&self, tokens: &mut Cursor<'_>) -> Result<Statement, Stop>
+    fn do_body(&self, tokens: &mut Cursor<'_>) -> Result<Boxed<Statement>, Stop>
         requires statements { Nests the.statement self.now.operands.simple.room (S.pre self.now.statement) (S.post self.now.statement) }
         ensures { Reads (symbol self.now.operands.simple.room the.do_body tokens.old) result tokens.new }
     {
-        let body = self.nested_statement(tokens)?;
+        let body = self.boxed_statement(tokens)?;
         tokens.expect(key(Word::While))?;
         Ok(body)
     }
@@ -106,7 +105,7 @@ impl<
     }
 
     #[tactic(auto, using(crate::proofs::Expand::do_loop_is))]
-    fn do_loop(&self, tokens: &mut Cursor<'_>) -> Result<(Statement, Expression), Stop>
+    fn do_loop(&self, tokens: &mut Cursor<'_>) -> Result<(Boxed<Statement>, Expression), Stop>
         requires assigns { Nests the.assign self.now.operands.simple.room (A.pre self.now.operands.assign) (A.post self.now.operands.assign) }
         requires statements { Nests the.statement self.now.operands.simple.room (S.pre self.now.statement) (S.post self.now.statement) }
         ensures { Reads (symbol self.now.operands.simple.room the.do_loop tokens.old) result tokens.new }
@@ -126,7 +125,7 @@ impl<
         let (body, condition) = self.do_loop(tokens)?;
         Ok(Statement::Do {
             place,
-            body: Boxed::new(self.operands.simple.alloc, body)?,
+            body,
             condition,
         })
     }
@@ -146,5 +145,29 @@ impl<
         } else {
             self.for_statement(tokens)
         }
+    }
+}
+
+/// An `if`, with its `else` or without.
+fn if_of(
+    place: Place,
+    condition: Expression,
+    then: Boxed<Statement>,
+    otherwise: Option<Boxed<Statement>>,
+) -> Statement
+    ensures { result ≡ trees.if_of place condition (then, otherwise) }
+{
+    match otherwise {
+        None => Statement::If {
+            place,
+            condition,
+            then,
+        },
+        Some(otherwise) => Statement::IfElse {
+            place,
+            condition,
+            then,
+            otherwise,
+        },
     }
 }

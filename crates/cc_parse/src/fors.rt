@@ -5,11 +5,11 @@ ghost use Rattle.cc_expressions.specs.Steps.{Reads};
 ghost use Rattle.cc_grammar.specs.Reading.{symbol};
 ghost use Rattle.cc_grammar.specs.Symbols as the;
 
-use crate::rows::for_statement;
 use crate::statements::Statements;
 use cc_expressions::{Cursor, Stop, key, sign};
 use cc_grammar::{Expression, ForHeader, Statement};
 use cc_lex::{Mark, Word};
+use sqlite_items::Boxed;
 use std::alloc::Global;
 
 impl<
@@ -54,22 +54,26 @@ impl<
     }
 
     #[tactic(auto, using(crate::proofs::Expand::for_header_is))]
-    fn for_header(&self, tokens: &mut Cursor<'_>) -> Result<ForHeader, Stop>
+    fn for_header(&self, tokens: &mut Cursor<'_>) -> Result<Boxed<ForHeader>, Stop>
         requires assigns { Nests the.assign self.now.operands.simple.room (A.pre self.now.operands.assign) (A.post self.now.operands.assign) }
         ensures { Reads (symbol self.now.operands.simple.room the.for_header tokens.old) result tokens.new }
     {
         tokens.expect(sign(Mark::OpenParenthesis))?;
-        self.for_parts(tokens)
+        let parts = self.for_parts(tokens)?;
+        Ok(Boxed::new(self.operands.simple.alloc, parts)?)
     }
 
     #[tactic(auto, using(crate::proofs::Expand::for_loop_is))]
-    fn for_loop(&self, tokens: &mut Cursor<'_>) -> Result<(ForHeader, Statement), Stop>
+    fn for_loop(
+        &self,
+        tokens: &mut Cursor<'_>,
+    ) -> Result<(Boxed<ForHeader>, Boxed<Statement>), Stop>
         requires assigns { Nests the.assign self.now.operands.simple.room (A.pre self.now.operands.assign) (A.post self.now.operands.assign) }
         requires statements { Nests the.statement self.now.operands.simple.room (S.pre self.now.statement) (S.post self.now.statement) }
         ensures { Reads (symbol self.now.operands.simple.room the.for_loop tokens.old) result tokens.new }
     {
         let header = self.for_header(tokens)?;
-        let body = self.nested_statement(tokens)?;
+        let body = self.boxed_statement(tokens)?;
         Ok((header, body))
     }
 
@@ -81,6 +85,10 @@ impl<
     {
         let place = tokens.expect(key(Word::For))?.place;
         let (header, body) = self.for_loop(tokens)?;
-        Ok(for_statement(self.operands.simple.alloc, place, header, body)?)
+        Ok(Statement::For {
+            place,
+            header,
+            body,
+        })
     }
 }

@@ -10,7 +10,6 @@ mod jumps;
 mod locals;
 mod nesting;
 mod parsing;
-mod rows;
 mod selects;
 mod sources;
 mod statements;

@@ -54,6 +54,15 @@ impl<
         )
     }
 
+    /// The same in a box.
+    pub fn boxed_statement(&self, tokens: &mut Cursor<'_>) -> Result<Boxed<Statement>, Stop>
+        requires statements { Nests the.statement self.now.operands.simple.room (S.pre self.now.statement) (S.post self.now.statement) }
+        ensures { Reads (level self.now.operands.simple.room the.statement tokens.old) result tokens.new }
+    {
+        let statement = self.nested_statement(tokens)?;
+        Ok(Boxed::new(self.operands.simple.alloc, statement)?)
+    }
+
     #[tactic(auto, using(crate::proofs::Expand::ended_assign_is))]
     pub fn ended_assign(&self, tokens: &mut Cursor<'_>) -> Result<Expression, Stop>
         requires assigns { Nests the.assign self.now.operands.simple.room (A.pre self.now.operands.assign) (A.post self.now.operands.assign) }
