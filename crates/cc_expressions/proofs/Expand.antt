@@ -34,6 +34,9 @@ untimed_is n ts = symbol_is n the.untimed ts
 pub store_is : (n : ℕ) (ts : List Token) → symbol n the.store ts ≡ answered (made the.store) (read (symbol n) (level n) (rule the.store) ts)
 store_is n ts = symbol_is n the.store ts
 
+pub assign_operator_is : (n : ℕ) (ts : List Token) → symbol n the.assign_operator ts ≡ answered (made the.assign_operator) (read (symbol n) (level n) (rule the.assign_operator) ts)
+assign_operator_is n ts = symbol_is n the.assign_operator ts
+
 pub conditional_is : (n : ℕ) (ts : List Token) → symbol n the.conditional ts ≡ answered (made the.conditional) (read (symbol n) (level n) (rule the.conditional) ts)
 conditional_is n ts = symbol_is n the.conditional ts
 
@@ -61,11 +64,17 @@ equality_is n ts = symbol_is n the.equality ts
 pub equality_step_is : (n : ℕ) (ts : List Token) → symbol n the.equality_step ts ≡ answered (made the.equality_step) (read (symbol n) (level n) (rule the.equality_step) ts)
 equality_step_is n ts = symbol_is n the.equality_step ts
 
+pub equality_operator_is : (n : ℕ) (ts : List Token) → symbol n the.equality_operator ts ≡ answered (made the.equality_operator) (read (symbol n) (level n) (rule the.equality_operator) ts)
+equality_operator_is n ts = symbol_is n the.equality_operator ts
+
 pub order_is : (n : ℕ) (ts : List Token) → symbol n the.order ts ≡ answered (made the.order) (read (symbol n) (level n) (rule the.order) ts)
 order_is n ts = symbol_is n the.order ts
 
 pub order_step_is : (n : ℕ) (ts : List Token) → symbol n the.order_step ts ≡ answered (made the.order_step) (read (symbol n) (level n) (rule the.order_step) ts)
 order_step_is n ts = symbol_is n the.order_step ts
+
+pub order_operator_is : (n : ℕ) (ts : List Token) → symbol n the.order_operator ts ≡ answered (made the.order_operator) (read (symbol n) (level n) (rule the.order_operator) ts)
+order_operator_is n ts = symbol_is n the.order_operator ts
 
 pub sum_is : (n : ℕ) (ts : List Token) → symbol n the.sum ts ≡ answered (made the.sum) (read (symbol n) (level n) (rule the.sum) ts)
 sum_is n ts = symbol_is n the.sum ts
@@ -73,17 +82,26 @@ sum_is n ts = symbol_is n the.sum ts
 pub sum_step_is : (n : ℕ) (ts : List Token) → symbol n the.sum_step ts ≡ answered (made the.sum_step) (read (symbol n) (level n) (rule the.sum_step) ts)
 sum_step_is n ts = symbol_is n the.sum_step ts
 
+pub sum_operator_is : (n : ℕ) (ts : List Token) → symbol n the.sum_operator ts ≡ answered (made the.sum_operator) (read (symbol n) (level n) (rule the.sum_operator) ts)
+sum_operator_is n ts = symbol_is n the.sum_operator ts
+
 pub term_is : (n : ℕ) (ts : List Token) → symbol n the.term ts ≡ answered (made the.term) (read (symbol n) (level n) (rule the.term) ts)
 term_is n ts = symbol_is n the.term ts
 
 pub term_step_is : (n : ℕ) (ts : List Token) → symbol n the.term_step ts ≡ answered (made the.term_step) (read (symbol n) (level n) (rule the.term_step) ts)
 term_step_is n ts = symbol_is n the.term_step ts
 
+pub term_operator_is : (n : ℕ) (ts : List Token) → symbol n the.term_operator ts ≡ answered (made the.term_operator) (read (symbol n) (level n) (rule the.term_operator) ts)
+term_operator_is n ts = symbol_is n the.term_operator ts
+
 pub unary_is : (n : ℕ) (ts : List Token) → symbol n the.unary ts ≡ answered (made the.unary) (read (symbol n) (level n) (rule the.unary) ts)
 unary_is n ts = symbol_is n the.unary ts
 
 pub prefixed_is : (n : ℕ) (ts : List Token) → symbol n the.prefixed ts ≡ answered (made the.prefixed) (read (symbol n) (level n) (rule the.prefixed) ts)
 prefixed_is n ts = symbol_is n the.prefixed ts
+
+pub prefix_is : (n : ℕ) (ts : List Token) → symbol n the.prefix ts ≡ answered (made the.prefix) (read (symbol n) (level n) (rule the.prefix) ts)
+prefix_is n ts = symbol_is n the.prefix ts
 
 pub postfix_is : (n : ℕ) (ts : List Token) → symbol n the.postfix ts ≡ answered (made the.postfix) (read (symbol n) (level n) (rule the.postfix) ts)
 postfix_is n ts = symbol_is n the.postfix ts
@@ -100,8 +118,17 @@ index_is n ts = symbol_is n the.index ts
 pub index_value_is : (n : ℕ) (ts : List Token) → symbol n the.index_value ts ≡ answered (made the.index_value) (read (symbol n) (level n) (rule the.index_value) ts)
 index_value_is n ts = symbol_is n the.index_value ts
 
+pub optional_suffix_is : (n : ℕ) (ts : List Token) → symbol n the.optional_suffix ts ≡ answered (made the.optional_suffix) (read (symbol n) (level n) (rule the.optional_suffix) ts)
+optional_suffix_is n ts = symbol_is n the.optional_suffix ts
+
+pub suffix_is : (n : ℕ) (ts : List Token) → symbol n the.suffix ts ≡ answered (made the.suffix) (read (symbol n) (level n) (rule the.suffix) ts)
+suffix_is n ts = symbol_is n the.suffix ts
+
 pub primary_is : (n : ℕ) (ts : List Token) → symbol n the.primary ts ≡ answered (made the.primary) (read (symbol n) (level n) (rule the.primary) ts)
 primary_is n ts = symbol_is n the.primary ts
+
+pub literal_is : (n : ℕ) (ts : List Token) → symbol n the.literal ts ≡ answered (made the.literal) (read (symbol n) (level n) (rule the.literal) ts)
+literal_is n ts = symbol_is n the.literal ts
 
 pub named_is : (n : ℕ) (ts : List Token) → symbol n the.named ts ≡ answered (made the.named) (read (symbol n) (level n) (rule the.named) ts)
 named_is n ts = symbol_is n the.named ts

@@ -1,1 +1,2 @@
 pub mod Expand
+pub mod Turns

@@ -1,1 +1,3 @@
 pub mod Nests
+pub mod Steps
+pub mod Turns

@@ -4,10 +4,10 @@ use Rattle.std.specs.declared.alloc.Global.{Global}
 use denote.Ref.{MutBor}
 use Rattle.cc_lex.specs.declared.token.Token.{Token}
 use Rattle.cc_grammar.specs.Reading.{level}
-use Rattle.cc_readers.specs.Steps.{Reads}
+use Rattle.cc_expressions.specs.Steps.{Reads}
 use Rattle.cc_grammar.specs.Symbols.{Symbol}
 use Rattle.cc_grammar.specs.Trees.{TreeOf}
-use Rattle.cc_readers.specs.declared.cursor.Stop.{Stop}
+use Rattle.cc_expressions.specs.declared.cursor.Stop.{Stop}
 
 pub record Nests (s : Symbol) (room : ℕ) (pre : Global → MutBor (List Token) → ℕ → Type 0)
     (post : Global → MutBor (List Token) → ℕ → Result (TreeOf s) Stop → MutBor (List Token) → Type 0) : Type 0 where

@@ -6,14 +6,15 @@ ghost use Rattle.cc_grammar.specs.Reading.{level, loop, symbol};
 ghost use Rattle.cc_grammar.specs.Symbols as the;
 ghost use Rattle.cc_lex.specs.declared.token.Mark.TheVariants as mark;
 ghost use Rattle.cc_expressions.specs.Nests.{Nests};
-ghost use Rattle.cc_readers.specs.Steps.{Reads};
+ghost use Rattle.cc_expressions.specs.Steps.{Reads};
 ghost use Rattle.std.specs.Prelude.{◌∷◌, [], length};
 
+use crate::cursor::{Cursor, Stop, key, sign};
 use crate::operands::Operands;
 use crate::rows::{choice, conjunction, disjunction, equality, order, stored, sum, term, within};
+use crate::starts::{begins_prefix, begins_store};
 use cc_grammar::{AssignOperator, EqualityStep, Expression, OrderStep, SumStep, TermStep};
 use cc_lex::{Mark, Word};
-use cc_readers::{Cursor, Stop, begins_prefix, begins_store, key, sign};
 use sqlite_items::{Boxed, Items};
 use std::alloc::Global;
 
@@ -97,7 +98,7 @@ impl<
         Ok(TermStep { operator, operand })
     }
 
-    #[tactic(auto, unfolding(cc_readers::specs::Turns::from))]
+    #[tactic(auto, unfolding(crate::specs::Turns::from))]
     fn term_steps(&self, tokens: &mut Cursor<'_>) -> Result<Items<TermStep>, Stop>
         requires assigns { Nests the.assign self.now.operands.simple.room (A.pre self.now.operands.assign) (A.post self.now.operands.assign) }
         requires unaries { Nests the.unary self.now.operands.simple.room (U.pre self.now.unary) (U.post self.now.unary) }
@@ -135,7 +136,7 @@ impl<
         Ok(SumStep { operator, operand })
     }
 
-    #[tactic(auto, unfolding(cc_readers::specs::Turns::from))]
+    #[tactic(auto, unfolding(crate::specs::Turns::from))]
     fn sum_steps(&self, tokens: &mut Cursor<'_>) -> Result<Items<SumStep>, Stop>
         requires assigns { Nests the.assign self.now.operands.simple.room (A.pre self.now.operands.assign) (A.post self.now.operands.assign) }
         requires unaries { Nests the.unary self.now.operands.simple.room (U.pre self.now.unary) (U.post self.now.unary) }
@@ -173,7 +174,7 @@ impl<
         Ok(OrderStep { operator, operand })
     }
 
-    #[tactic(auto, unfolding(cc_readers::specs::Turns::from))]
+    #[tactic(auto, unfolding(crate::specs::Turns::from))]
     fn order_steps(&self, tokens: &mut Cursor<'_>) -> Result<Items<OrderStep>, Stop>
         requires assigns { Nests the.assign self.now.operands.simple.room (A.pre self.now.operands.assign) (A.post self.now.operands.assign) }
         requires unaries { Nests the.unary self.now.operands.simple.room (U.pre self.now.unary) (U.post self.now.unary) }
@@ -216,7 +217,7 @@ impl<
         Ok(EqualityStep { operator, operand })
     }
 
-    #[tactic(auto, unfolding(cc_readers::specs::Turns::from))]
+    #[tactic(auto, unfolding(crate::specs::Turns::from))]
     fn equality_steps(&self, tokens: &mut Cursor<'_>) -> Result<Items<EqualityStep>, Stop>
         requires assigns { Nests the.assign self.now.operands.simple.room (A.pre self.now.operands.assign) (A.post self.now.operands.assign) }
         requires unaries { Nests the.unary self.now.operands.simple.room (U.pre self.now.unary) (U.post self.now.unary) }
@@ -253,7 +254,7 @@ impl<
         self.equality(tokens)
     }
 
-    #[tactic(auto, unfolding(cc_readers::specs::Turns::from))]
+    #[tactic(auto, unfolding(crate::specs::Turns::from))]
     fn next_equalities(&self, tokens: &mut Cursor<'_>) -> Result<Items<Expression>, Stop>
         requires assigns { Nests the.assign self.now.operands.simple.room (A.pre self.now.operands.assign) (A.post self.now.operands.assign) }
         requires unaries { Nests the.unary self.now.operands.simple.room (U.pre self.now.unary) (U.post self.now.unary) }
@@ -290,7 +291,7 @@ impl<
         self.conjunction(tokens)
     }
 
-    #[tactic(auto, unfolding(cc_readers::specs::Turns::from))]
+    #[tactic(auto, unfolding(crate::specs::Turns::from))]
     fn next_conjunctions(&self, tokens: &mut Cursor<'_>) -> Result<Items<Expression>, Stop>
         requires assigns { Nests the.assign self.now.operands.simple.room (A.pre self.now.operands.assign) (A.post self.now.operands.assign) }
         requires unaries { Nests the.unary self.now.operands.simple.room (U.pre self.now.unary) (U.post self.now.unary) }

@@ -2,14 +2,16 @@
 
 ghost use Rattle.cc_grammar.specs.Reading.{level};
 ghost use Rattle.cc_grammar.specs.Symbols as the;
-ghost use Rattle.cc_readers.specs.Steps.{Reads};
-ghost use Rattle.cc_readers.specs.declared.cursor.Stop.TheVariants as stop;
+ghost use Rattle.cc_expressions.specs.Steps.{Reads};
+ghost use Rattle.cc_expressions.specs.declared.cursor.Stop.TheVariants as stop;
 ghost use Rattle.std.specs.Prelude.{◌≡◌, if◌then◌else◌};
 
+use crate::cursor::{Cursor, Stop};
 use crate::expressions::Expressions;
 use crate::operands::Operands;
+use crate::simple::Simple;
+use crate::starts::{begins_assign, begins_operand};
 use cc_grammar::Expression;
-use cc_readers::{Cursor, Simple, Stop, begins_assign, begins_operand};
 use std::alloc::Global;
 
 /// Why a phrase is not read for which no room is left.

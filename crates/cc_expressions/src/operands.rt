@@ -6,16 +6,16 @@ ghost use Rattle.cc_grammar.specs.Reading.{level, loop, symbol};
 ghost use Rattle.cc_grammar.specs.Symbols as the;
 ghost use Rattle.cc_lex.specs.declared.token.Mark.TheVariants as mark;
 ghost use Rattle.cc_expressions.specs.Nests.{Nests};
-ghost use Rattle.cc_readers.specs.Steps.{Reads};
+ghost use Rattle.cc_expressions.specs.Steps.{Reads};
 ghost use Rattle.std.specs.Prelude.{◌∷◌, [], length};
 
+use crate::cursor::{CHARACTER, Cursor, NAME, NUMBER, STRING, Stop, key, sign};
+use crate::leaves::{before, format, identifier};
 use crate::rows::postfix;
-use cc_grammar::{Expression, Field, Format, Step};
+use crate::simple::Simple;
+use crate::starts::begins_assign;
+use cc_grammar::{Expression, Format, Step};
 use cc_lex::{Mark, Word};
-use cc_readers::{
-    CHARACTER, Cursor, NAME, NUMBER, STRING, Simple, Stop, before, begins_assign, format,
-    identifier, key, sign,
-};
 use sqlite_items::{Boxed, Items};
 use std::alloc::Global;
 
@@ -67,7 +67,7 @@ impl<A: Fn(Global, &mut Cursor<'_>, usize) -> Result<Expression, Stop>> Operands
         self.nested_assign(tokens)
     }
 
-    #[tactic(auto, unfolding(cc_readers::specs::Turns::from))]
+    #[tactic(auto, unfolding(crate::specs::Turns::from))]
     fn next_arguments(&self, tokens: &mut Cursor<'_>) -> Result<Items<Expression>, Stop>
         requires assigns { Nests the.assign self.now.simple.room (A.pre self.now.assign) (A.post self.now.assign) }
         ensures { Reads (loop (symbol self.now.simple.room the.next_argument) (mark_kind mark.Comma ∷ []) (length tokens.old) tokens.old) result tokens.new }
@@ -276,7 +276,7 @@ impl<A: Fn(Global, &mut Cursor<'_>, usize) -> Result<Expression, Stop>> Operands
         }
     }
 
-    #[tactic(auto, unfolding(cc_readers::specs::Turns::from))]
+    #[tactic(auto, unfolding(crate::specs::Turns::from))]
     fn steps(&self, tokens: &mut Cursor<'_>) -> Result<Items<Step>, Stop>
         requires assigns { Nests the.assign self.now.simple.room (A.pre self.now.assign) (A.post self.now.assign) }
         ensures { Reads (loop (symbol self.now.simple.room the.step) (mark_kind mark.Dot ∷ mark_kind mark.OpenBracket ∷ []) (length tokens.old) tokens.old) result tokens.new }

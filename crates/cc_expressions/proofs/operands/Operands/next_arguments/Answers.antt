@@ -3,7 +3,7 @@ use Rattle.cc_lex.specs.declared.token.Mark.TheVariants as mark
 use Rattle.cc_grammar.specs.Kinds.{mark_kind}
 use Rattle.cc_grammar.specs.Reading.{symbol}
 use Rattle.cc_grammar.specs.Symbols as the
-use Rattle.cc_readers.proofs.Turns.{begun, turned}
+use Rattle.cc_expressions.proofs.Turns.{begun, turned}
 use Rattle.cc_expressions.proofs.operands.Operands.next_arguments.Goals as goal
 
 pub loop-turn-init : goal.loop-turn-init

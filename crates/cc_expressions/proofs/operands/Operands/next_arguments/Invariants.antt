@@ -3,7 +3,7 @@ use Rattle.cc_lex.specs.declared.token.Mark.TheVariants as mark
 use Rattle.cc_grammar.specs.Kinds.{mark_kind}
 use Rattle.cc_grammar.specs.Reading.{loop, symbol}
 use Rattle.cc_grammar.specs.Symbols as the
-use Rattle.cc_readers.specs.Turns.{from}
+use Rattle.cc_expressions.specs.Turns.{from}
 use Rattle.cc_expressions.proofs.operands.Operands.next_arguments.Given as goal
 
 abbrev pub invariant-loop-turn : goal.invariant-loop-turn

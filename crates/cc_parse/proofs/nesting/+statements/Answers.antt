@@ -1,0 +1,7 @@
+use Rattle.std.proofs.Common.{arith}
+use Rattle.cc_grammar.specs.Symbols as the
+use Rattle.cc_grammar.proofs.Equations.{level_step}
+use Rattle.cc_parse.proofs.nesting.+statements.Goals as goal
+
+pub statement-returns : goal.statement-returns
+statement-returns t c = rw (level_step c.args.room the.statement c.args.tokens.now (omega arith)) c.statement.ensures

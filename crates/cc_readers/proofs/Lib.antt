@@ -1,2 +1,0 @@
-pub mod Expand
-pub mod Turns
