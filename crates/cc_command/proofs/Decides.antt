@@ -14,6 +14,7 @@ use Rattle.cc_command.specs.declared.cause.Ending.TheVariants.{Well}
 use Rattle.cc_command.specs.declared.text_fault.TextFaultKind.{TextFaultKind}
 use Rattle.cc_typed.specs.Parts.{Parts}
 use Rattle.cc_world.specs.Shelf.{Files}
+use Rattle.cc_world.specs.Told.{Reported}
 
 -- what holds of the file asked for holds of this one
 of_file : (asked : Option (List ℕ)) (file : List ℕ) (P : List ℕ → Type 0) → asked ≡ Some file → IfSome asked P → P file
@@ -38,18 +39,7 @@ meant files file text program has tells = subst (λ (t : List ℕ). MeansProgram
 faulty : (files : Option Files) (file text : List ℕ) (place : Place) (kind : TextFaultKind) → FileHasFault files file place kind → TellsText files file text → HasFault text place kind
 faulty files file text place kind has tells = subst (λ (t : List ℕ). HasFault t place kind) (same_text files file has.text text has.held tells) has.fault
 
-module _
-  (answer : Result Ending Cause) (asked : Option (List ℕ)) (files : Option Files) (Missed : List ℕ → Type 0) (Risen : Type 0)
-  (Then : Ending → Parts → Type 0) (Cut : Parts → Type 0)
-  (usage : IsErrOf answer Usage → asked ≡ None)
-  (done : IfOk answer (λ ending. IfSome asked (λ file. HoldsProgram files file (Then ending))))
-  (well : IfOk answer (λ ending. ending ≡ Well))
-  (fault : IfText answer (λ place kind. IfSome asked (λ file. FileHasFault files file place kind)))
-  (shelf : IsErrOf answer Shelf → IfSome asked Missed)
-  (write : IsErrOf answer Write → IfSome asked (λ file. HoldsProgram files file Cut))
-  (sink : IsErrOf answer Write → Risen)
-  (file : List ℕ) (is : asked ≡ Some file)
-where
+module _ (answer : Result Ending Cause) (asked : Option (List ℕ)) (files : Option Files) (Missed : List ℕ → Type 0) (Risen : Type 0) (Then : Ending → Parts → Type 0) (Cut : Parts → Type 0) (usage : IsErrOf answer Usage → asked ≡ None) (done : IfOk answer (λ ending. IfSome asked (λ file. HoldsProgram files file (Then ending)))) (well : IfOk answer (λ ending. ending ≡ Well)) (fault : IfText answer (λ place kind. IfSome asked (λ file. FileHasFault files file place kind))) (shelf : IsErrOf answer Shelf → IfSome asked Missed) (write : IsErrOf answer Write → IfSome asked (λ file. HoldsProgram files file Cut)) (sink : IsErrOf answer Write → Risen) (file : List ℕ) (is : asked ≡ Some file) where
   runs-at :
       (a : Result Ending Cause)
       → answer ≡ a
@@ -103,33 +93,33 @@ where
   reports-at :
       (a : Result Ending Cause)
       → answer ≡ a
-      → (Reports : List ℕ → Type 0)
-      → Reports (report_of a)
+      → (h0 h1 : Option (List ℕ)) (f0 f1 w0 w1 : ℕ)
+      → Reported h0 h1 (report_of a) f0 f1 w0 w1
       → (text : List ℕ) (place : Place) (kind : TextFaultKind)
       → TellsText files file text
       → HasFault text place kind
       → ¬ Missed file
-      → (status_of a ≡ 2) × Reports (fault_line place kind) ⊎ (status_of a ≡ 9)
-  reports-at (Result.Ok ending) e Reports told text place kind tells has kept =
+      → (status_of a ≡ 2) × Reported h0 h1 (fault_line place kind) f0 f1 w0 w1 ⊎ (status_of a ≡ 9)
+  reports-at (Result.Ok ending) e h0 h1 f0 f1 w0 w1 told text place kind tells has kept =
       absurd (let h = held-program ending e in meanings.no_faulty_program text h.program place kind (meant files file text h.program h.means tells) has)
-  reports-at (Result.Err Usage) e Reports told text place kind tells has kept = (let empty : asked ≡ None = usage e in absurd cc)
-  reports-at (Result.Err (Text found)) e Reports told text place kind tells has kept =
+  reports-at (Result.Err Usage) e h0 h1 f0 f1 w0 w1 told text place kind tells has kept = (let empty : asked ≡ None = usage e in absurd cc)
+  reports-at (Result.Err (Text found)) e h0 h1 f0 f1 w0 w1 told text place kind tells has kept =
       let ours = of_file asked file (λ f. FileHasFault files f found.place found.kind) is (subst (λ (r : Result Ending Cause). IfText r (λ p k. IfSome asked (λ f. FileHasFault files f p k))) e fault) in
       let same = meanings.one_fault text found.place place found.kind kind (faulty files file text found.place found.kind ours tells) has in
-      inl (refl, subst (λ (p : Place). Reports (fault_line p kind)) same.0 (subst (λ (k : TextFaultKind). Reports (fault_line found.place k)) same.1 told))
-  reports-at (Result.Err Shelf) e Reports told text place kind tells has kept = absurd (kept (of_file asked file Missed is (shelf e)))
-  reports-at (Result.Err Write) e Reports told text place kind tells has kept =
+      inl (refl, subst (λ (p : Place). Reported h0 h1 (fault_line p kind) f0 f1 w0 w1) same.0 (subst (λ (k : TextFaultKind). Reported h0 h1 (fault_line found.place k) f0 f1 w0 w1) same.1 told))
+  reports-at (Result.Err Shelf) e h0 h1 f0 f1 w0 w1 told text place kind tells has kept = absurd (kept (of_file asked file Missed is (shelf e)))
+  reports-at (Result.Err Write) e h0 h1 f0 f1 w0 w1 told text place kind tells has kept =
       absurd (let h = held-cut e in meanings.no_faulty_program text h.program place kind (meant files file text h.program h.means tells) has)
-  reports-at (Result.Err Memory) e Reports told text place kind tells has kept = inr refl
+  reports-at (Result.Err Memory) e h0 h1 f0 f1 w0 w1 told text place kind tells has kept = inr refl
 
   pub reports :
-      (Reports : List ℕ → Type 0)
-      → Reports (report_of answer)
+      (h0 h1 : Option (List ℕ)) (f0 f1 w0 w1 : ℕ)
+      → Reported h0 h1 (report_of answer) f0 f1 w0 w1
       → (text : List ℕ) (place : Place) (kind : TextFaultKind)
       → TellsText files file text
       → HasFault text place kind
       → ¬ Missed file
-      → (status_of answer ≡ 2) × Reports (fault_line place kind) ⊎ (status_of answer ≡ 9)
+      → (status_of answer ≡ 2) × Reported h0 h1 (fault_line place kind) f0 f1 w0 w1 ⊎ (status_of answer ≡ 9)
   reports = reports-at answer refl
 
   absent-at : (a : Result Ending Cause) → answer ≡ a → TellsNone files file → (status_of a ≡ 6) ⊎ (status_of a ≡ 9)

@@ -1,6 +1,6 @@
 -- A status tells how the command ended.
 use Rattle.std.proofs.Common.{◌≡◌, ◌≤◌, ℕ, List, [], ◌∷◌, Option, Some, None, refl, sym, ◌∙◌, ap, subst, arith, Result, Contains, IfOk}
-use Rattle.std.specs.Prelude.{IfSome, IsErrOf, unwrap_or}
+use Rattle.std.specs.Prelude.{◌==◌, IfSome, IsErrOf, unwrap_or, if◌then◌else◌}
 use Rattle.std.proofs.lemmas.Map.Made.{Contains-tail}
 use Rattle.cc_command.specs.Outcomes.{faults_of, FileHasFault, HoldsProgram, ReportsFault, RunsAsFarAsItGoes, RunsTo}
 use Rattle.cc_command.specs.Reports.{line_of, run_report}
@@ -13,24 +13,26 @@ use Rattle.cc_command.specs.declared.cause.Ending.{Ending}
 use Rattle.cc_command.specs.declared.cause.Ending.TheVariants.{Well, Faulted, Stuck, Spent}
 use Rattle.cc_rules.specs.declared.event.Event.{Event}
 use Rattle.cc_world.specs.Shelf.{Files}
+use Rattle.cc_world.specs.Told.{Reported}
 
 -- ---- which causes a status tells
 
 -- the cause of a status that tells it whole
 abbrev pub cause_of : ℕ → Option Cause
-cause_of 1 = Some Usage
-cause_of 6 = Some Shelf
-cause_of 8 = Some Write
-cause_of 9 = Some Memory
-cause_of _ = None
+cause_of status =
+    if status == 1 then Some Usage
+    else (if status == 6 then Some Shelf
+    else (if status == 8 then Some Write
+    else (if status == 9 then Some Memory
+    else None)))
 
 caused : (answer : Result Ending Cause) (cause : Cause) → cause_of (status_of answer) ≡ Some cause → IsErrOf answer cause
-caused (Result.Ok Well) cause e = cc
-caused (Result.Ok (Faulted faults)) cause e = cc
-caused (Result.Ok Stuck) cause e = cc
-caused (Result.Ok Spent) cause e = cc
+caused (Result.Ok Well) cause e = (let bad : None ≡ Some cause = e in cc)
+caused (Result.Ok (Faulted faults)) cause e = (let bad : None ≡ Some cause = e in cc)
+caused (Result.Ok Stuck) cause e = (let bad : None ≡ Some cause = e in cc)
+caused (Result.Ok Spent) cause e = (let bad : None ≡ Some cause = e in cc)
 caused (Result.Err Usage) cause e = ap (λ (o : Option Cause). let r : Result Ending Cause = Result.Err (unwrap_or o cause) in r) e
-caused (Result.Err (Text fault)) cause e = cc
+caused (Result.Err (Text fault)) cause e = (let bad : None ≡ Some cause = e in cc)
 caused (Result.Err Shelf) cause e = ap (λ (o : Option Cause). let r : Result Ending Cause = Result.Err (unwrap_or o cause) in r) e
 caused (Result.Err Write) cause e = ap (λ (o : Option Cause). let r : Result Ending Cause = Result.Err (unwrap_or o cause) in r) e
 caused (Result.Err Memory) cause e = ap (λ (o : Option Cause). let r : Result Ending Cause = Result.Err (unwrap_or o cause) in r) e
@@ -112,7 +114,11 @@ same-text Shelf Is told = tt
 same-text Write Is told = tt
 same-text Memory Is told = tt
 
-module _ (asked : Option (List ℕ)) (files : Option Files) (Reports : List ℕ → Type 0) where
+module _ (asked : Option (List ℕ)) (files : Option Files) (h0 h1 : Option (List ℕ)) (f0 f1 w0 w1 : ℕ) where
+  -- these lines were reported, or a first part of them
+  abbrev Reports : List ℕ → Type 0
+  Reports line = Reported h0 h1 line f0 f1 w0 w1
+
   pub goes :
       (answer : Result Ending Cause) (journal : List Event) (held held_after : Option (List ℕ))
       → IfOk answer (λ ending. IfSome asked (λ file. HoldsProgram files file (λ program. RunsTo program journal ending held held_after)))
@@ -143,7 +149,8 @@ module _ (asked : Option (List ℕ)) (files : Option Files) (Reports : List ℕ 
   tells (Result.Err Write) text told e = absurd (omega (arith, e))
   tells (Result.Err Memory) text told e = absurd (omega (arith, e))
 
-  pub one_line : (answer : Result Ending Cause) → Reports (report_of answer) → ¬ Contains (2 ∷ 3 ∷ []) (status_of answer) → Reports (line_of (status_of answer))
+module _ (h0 h1 : Option (List ℕ)) (f0 f1 w0 w1 : ℕ) where
+  pub one_line : (answer : Result Ending Cause) → Reported h0 h1 (report_of answer) f0 f1 w0 w1 → ¬ Contains (2 ∷ 3 ∷ []) (status_of answer) → Reported h0 h1 (line_of (status_of answer)) f0 f1 w0 w1
   one_line (Result.Ok Well) told other = told
   one_line (Result.Ok (Faulted faults)) told other = absurd (other (1, omega arith, refl))
   one_line (Result.Ok Stuck) told other = told

@@ -1,10 +1,14 @@
 -- The tokens of a program are read statement by statement.
-use Rattle.std.proofs.Common.{◌≡◌, ℕ, pos, ◌≤◌, List, [], ◌∷◌, ◌++◌, length, All, refl, sym, ◌∙◌, ap, ap₂, subst, append-nil}
+use Rattle.std.proofs.Common.{◌≡◌, ℕ, ℤ, pos, ◌≤◌, List, [], ◌∷◌, ◌++◌, length, drop, All, refl, sym, ◌∙◌, ap, ap₂, subst, append-nil}
 use Rattle.std.proofs.lemmas.List.{append_assoc, append_cancel_left, flat_map_more}
-use Rattle.std.proofs.lemmas.List.Elements.{All-head, All-push, All-tail}
+use Rattle.std.proofs.lemmas.List.Elements.{All-head, All-nil, All-push, All-tail}
 use Rattle.std.specs.List.{flat_map}
 use Rattle.cc_command.specs.Form.{closing, IsForm, opening, statement_of, whats}
+use Rattle.cc_lex.specs.declared.token.Mark.TheVariants as mark
+use Rattle.cc_lex.specs.declared.token.Size.TheVariants as size
 use Rattle.cc_lex.specs.declared.token.Token.{Token}
+use Rattle.cc_lex.specs.declared.token.What.TheVariants as what
+use Rattle.cc_lex.specs.declared.token.Word.TheVariants as word
 use Rattle.cc_lex.specs.declared.token.What.{What}
 
 -- the bytes that were read, and the tokens that are left
@@ -19,11 +23,40 @@ record Left (bytes all : List ℕ) (rest : List What) : Type 0 where
   in_range : All (λ byte. byte ≤ 255) more
   left : rest ≡ flat_map statement_of more ++ closing
 
-same_byte : (m n : ℕ) (r s : List What) → statement_of m ++ r ≡ statement_of n ++ s → m ≡ n
-same_byte m n r s e = cc
+-- a statement, written out
+abbrev put : ℕ → List What → List What
+put byte rest =
+    what.Word word.Putchar ∷
+    what.Mark mark.OpenParenthesis ∷
+    what.Number (pos byte) size.Int ∷
+    what.Mark mark.CloseParenthesis ∷
+    what.Mark mark.Semicolon ∷
+    rest
 
-same_rest : (m n : ℕ) (r s : List What) → statement_of m ++ r ≡ statement_of n ++ s → r ≡ s
-same_rest m n r s e = cc
+value_of : What → ℤ
+value_of (what.Number value of) = value
+value_of _ = pos 0
+
+third : List What → ℤ
+third (a ∷ b ∷ c ∷ rest) = value_of c
+third _ = pos 0
+
+same_byte : (m n : ℕ) (r s : List What) → put m r ≡ put n s → m ≡ n
+same_byte m n r s e =
+    let same : pos m ≡ pos n = ap third e in
+    cc
+
+same_rest : (m n : ℕ) (r s : List What) → put m r ≡ put n s → r ≡ s
+same_rest m n r s e = ap (drop 5) e
+
+front : List What → What
+front [] = what.Word word.Putchar
+front (w ∷ ws) = w
+
+no_put : (m : ℕ) (r : List What) → put m r ≡ closing → ⊥
+no_put m r e =
+    let same : what.Word word.Putchar ≡ what.Mark mark.CloseBrace = ap front e in
+    cc
 
 goes_on :
     (bytes all : List ℕ) (rest : List What)
@@ -31,7 +64,7 @@ goes_on :
     → flat_map statement_of bytes ++ rest ≡ flat_map statement_of all ++ closing
     → Left bytes all rest
 goes_on [] all rest small e = record { more = all; joined = refl; in_range = small; left = e }
-goes_on (byte ∷ bytes) [] rest small e = absurd cc
+goes_on (byte ∷ bytes) [] rest small e = absurd (no_put byte (flat_map statement_of bytes ++ rest) e)
 goes_on (byte ∷ bytes) (other ∷ all) rest small e =
     let ours : List What = flat_map statement_of bytes ++ rest in
     let theirs : List What = flat_map statement_of all ++ closing in
@@ -56,6 +89,9 @@ left_of tokens bytes all rest read form =
 pub not_opened : (tokens : List Token) → ((rest : List What) → ¬ (whats tokens ≡ opening ++ rest)) → (bytes : List ℕ) → ¬ IsForm tokens bytes
 not_opened tokens none bytes form =
     none (flat_map statement_of bytes ++ closing) (form.spelled ∙ behind_opening (flat_map statement_of bytes) closing)
+
+pub opened : (tokens rest : List Token) → whats tokens ≡ opening ++ whats rest → HasRead tokens [] rest
+opened tokens rest e = record { in_range = All-nil (λ b. b ≤ 255); begun = e }
 
 pub read_one :
     (tokens : List Token) (bytes : List ℕ) (rest after : List Token) (byte : ℕ)
@@ -83,8 +119,8 @@ stuck_at :
     → ((byte : ℕ) (after : List What) → byte ≤ 255 → ¬ (rest ≡ statement_of byte ++ after))
     → ¬ (rest ≡ closing)
     → ¬ (rest ≡ flat_map statement_of more ++ closing)
-stuck_at [] rest small none open left = open left
-stuck_at (byte ∷ more) rest small none open left = none byte (flat_map statement_of more ++ closing) (All-head (λ b. b ≤ 255) byte more small) left
+stuck_at [] rest small none other left = other left
+stuck_at (byte ∷ more) rest small none other left = none byte (flat_map statement_of more ++ closing) (All-head (λ b. b ≤ 255) byte more small) left
 
 pub stuck :
     (tokens : List Token) (bytes : List ℕ) (rest : List Token)
@@ -93,15 +129,15 @@ pub stuck :
     → ¬ (whats rest ≡ closing)
     → (all : List ℕ)
     → ¬ IsForm tokens all
-stuck tokens bytes rest read none open all form =
+stuck tokens bytes rest read none other all form =
     let left = left_of tokens bytes all rest read form in
-    stuck_at left.more (whats rest) left.in_range none open left.left
+    stuck_at left.more (whats rest) left.in_range none other left.left
 
 -- ---- the law
 
 nothing_more : (more : List ℕ) → closing ≡ flat_map statement_of more ++ closing → more ≡ []
 nothing_more [] e = refl
-nothing_more (byte ∷ more) e = absurd cc
+nothing_more (byte ∷ more) e = absurd (no_put byte (flat_map statement_of more ++ closing) (sym e))
 
 pub same_bytes : (tokens : List Token) (first second : List ℕ) → IsForm tokens first → IsForm tokens second → first ≡ second
 same_bytes tokens first second one other =

@@ -26,36 +26,31 @@ no_tokens_fault text list place kind x fault = unique.no_fault text list place k
 tree_or_syntax : (list : TokenList) (tree : Tree) (at : ℕ) (place : Place) → IsTree list tree → IsSyntax list at place → ⊥
 tree_or_syntax list tree at place is syntax_fault = elim (one_answer list (Ok tree) (Err (error.Syntax at place)) is syntax_fault) [
   | inl e ↦ cc
-  | inr (inl e) ↦ cc
-  | inr (inr e) ↦ cc
+  | inr none ↦ elim none [ inl e ↦ cc | inr e ↦ cc ]
 ]
 
 tree_or_deep : (list : TokenList) (tree : Tree) (place : Place) → IsTree list tree → IsTooDeep list place → ⊥
 tree_or_deep list tree place is deep = elim (one_answer list (Ok tree) (Err (error.TooDeep place)) is deep) [
   | inl e ↦ cc
-  | inr (inl e) ↦ cc
-  | inr (inr e) ↦ cc
+  | inr none ↦ elim none [ inl e ↦ cc | inr e ↦ cc ]
 ]
 
 syntax_or_deep : (list : TokenList) (at : ℕ) (p q : Place) → IsSyntax list at p → IsTooDeep list q → ⊥
 syntax_or_deep list at p q syntax_fault deep = elim (one_answer list (Err (error.Syntax at p)) (Err (error.TooDeep q)) syntax_fault deep) [
   | inl e ↦ cc
-  | inr (inl e) ↦ cc
-  | inr (inr e) ↦ cc
+  | inr none ↦ elim none [ inl e ↦ cc | inr e ↦ cc ]
 ]
 
 one_syntax : (list : TokenList) (at by : ℕ) (p q : Place) → IsSyntax list at p → IsSyntax list by q → p ≡ q
 one_syntax list at by p q a b = elim (one_answer list (Err (error.Syntax at p)) (Err (error.Syntax by q)) a b) [
   | inl e ↦ cc
-  | inr (inl e) ↦ absurd cc
-  | inr (inr e) ↦ absurd cc
+  | inr none ↦ absurd (elim none [ inl e ↦ cc | inr e ↦ cc ])
 ]
 
 one_deep : (list : TokenList) (p q : Place) → IsTooDeep list p → IsTooDeep list q → p ≡ q
 one_deep list p q a b = elim (one_answer list (Err (error.TooDeep p)) (Err (error.TooDeep q)) a b) [
   | inl e ↦ cc
-  | inr (inl e) ↦ absurd cc
-  | inr (inr e) ↦ absurd cc
+  | inr none ↦ absurd (elim none [ inl e ↦ cc | inr e ↦ cc ])
 ]
 
 -- ---- with the text's tokens
@@ -85,9 +80,6 @@ no_faulty_program text program place TooDeep means fault =
     tree_or_deep means.list means.tree place means.read.tree (deep_of text means.list place means.read.tokens fault)
 no_faulty_program text program place Unbuilt means fault =
     fault.3 program (built_of means.list fault.0 program (same_tokens text means.list fault.0 means.read.tokens fault.2.tokens) means.built)
-
-SameFault : Place → Place → TextFaultKind → TextFaultKind → Type 0
-SameFault p q k l = (p ≡ q) × (k ≡ l)
 
 pub one_fault : (text : List ℕ) (p q : Place) (k l : TextFaultKind) → HasFault text p k → HasFault text q l → (p ≡ q) × (k ≡ l)
 one_fault text p q (Tokens k) (Tokens l) a b = (let same = unique.one_fault text p q k l a b in (same.0, ap (λ (kind : LexKind). Tokens kind) same.1))

@@ -31,7 +31,10 @@ statements-length : (bytes : List ℕ) → length (flat_map statement_of bytes) 
 statements-length [] = refl
 statements-length (byte ∷ bytes) =
     let others = statements-length bytes in
-    omega (arith, others, length-append (statement_of byte) (flat_map statement_of bytes))
+    let five : length (statement_of byte) ≡ 5 = refl in
+    let both : length (flat_map statement_of (byte ∷ bytes)) ≡ length (statement_of byte) + length (flat_map statement_of bytes) =
+    length-append (statement_of byte) (flat_map statement_of bytes) in
+    omega (arith, others, five, both)
 
 form-length : (tokens : List Token) (bytes : List ℕ) → IsForm tokens bytes → 5 * length bytes ≤ length tokens
 form-length tokens bytes form =

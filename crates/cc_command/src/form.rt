@@ -18,18 +18,24 @@ fn after_opening(tokens: &[Token]) -> Option<&[Token]>
 {
     match tokens {
         [
-            Token { what: What::Name(name), .. },
-            Token { what: What::Mark(Mark::OpenParenthesis), .. },
-            Token { what: What::Mark(Mark::CloseParenthesis), .. },
-            Token { what: What::Mark(Mark::OpenBrace), .. },
+            Token {
+                what: What::Name(name),
+                ..
+            },
+            Token {
+                what: What::Mark(Mark::OpenParenthesis),
+                ..
+            },
+            Token {
+                what: What::Mark(Mark::CloseParenthesis),
+                ..
+            },
+            Token {
+                what: What::Mark(Mark::OpenBrace),
+                ..
+            },
             rest @ ..,
-        ] => {
-            if is_main(name) {
-                Some(rest)
-            } else {
-                None
-            }
-        }
+        ] => { if is_main(name) { Some(rest) } else { None } }
         _ => None,
     }
 }
@@ -50,11 +56,29 @@ fn put_at(tokens: &[Token]) -> Option<(i64, &[Token])>
 {
     match tokens {
         [
-            Token { what: What::Word(Word::Putchar), .. },
-            Token { what: What::Mark(Mark::OpenParenthesis), .. },
-            Token { what: What::Number { value, size: Size::Int }, .. },
-            Token { what: What::Mark(Mark::CloseParenthesis), .. },
-            Token { what: What::Mark(Mark::Semicolon), .. },
+            Token {
+                what: What::Word(Word::Putchar),
+                ..
+            },
+            Token {
+                what: What::Mark(Mark::OpenParenthesis),
+                ..
+            },
+            Token {
+                what: What::Number {
+                    value,
+                    size: Size::Int,
+                },
+                ..
+            },
+            Token {
+                what: What::Mark(Mark::CloseParenthesis),
+                ..
+            },
+            Token {
+                what: What::Mark(Mark::Semicolon),
+                ..
+            },
             rest @ ..,
         ] => Some((*value, rest)),
         _ => None,
@@ -75,7 +99,13 @@ fn statement(tokens: &[Token]) -> Option<(u8, &[Token])>
 fn is_closing(tokens: &[Token]) -> bool
     ensures { IsTrue result ↔ (whats tokens.now ≡ closing) }
 {
-    matches!(tokens, [Token { what: What::Mark(Mark::CloseBrace), .. }])
+    matches!(
+        tokens,
+        [Token {
+            what: What::Mark(Mark::CloseBrace),
+            ..
+        }]
+    )
 }
 
 /// The bytes that the program of these tokens puts, in order; none exactly where the tokens are of another form.

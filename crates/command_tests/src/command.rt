@@ -145,12 +145,7 @@ fn refusals_are_reported(rt: HostRuntime) {
         reported: "shelf\n",
         ..refused
     };
-    for case in &[
-        no_words,
-        other_action,
-        too_many,
-        no_file,
-    ] {
+    for case in &[no_words, other_action, too_many, no_file] {
         check(&rt, rt.alloc(), case);
     }
 }

@@ -30,9 +30,24 @@ fn text_fault(line: u32, column: u32, kind: TextFaultKind) -> Result<Ending, Cau
 #[test]
 fn faults_of_texts(rt: HostRuntime) {
     let alloc = rt.alloc();
-    told(&rt, alloc, &text_fault(1, 1, TextFaultKind::Unbuilt), b"1:1: Unbuilt\n");
-    told(&rt, alloc, &text_fault(12, 345, TextFaultKind::Syntax), b"12:345: Syntax\n");
-    told(&rt, alloc, &text_fault(9, 10, TextFaultKind::TooDeep), b"9:10: TooDeep\n");
+    told(
+        &rt,
+        alloc,
+        &text_fault(1, 1, TextFaultKind::Unbuilt),
+        b"1:1: Unbuilt\n",
+    );
+    told(
+        &rt,
+        alloc,
+        &text_fault(12, 345, TextFaultKind::Syntax),
+        b"12:345: Syntax\n",
+    );
+    told(
+        &rt,
+        alloc,
+        &text_fault(9, 10, TextFaultKind::TooDeep),
+        b"9:10: TooDeep\n",
+    );
 }
 
 #[test]
@@ -55,7 +70,12 @@ fn faults_of_tokens(rt: HostRuntime) {
 #[test]
 fn causes(rt: HostRuntime) {
     let alloc = rt.alloc();
-    told(&rt, alloc, &Err(Cause::Usage), b"usage: ccrun ACTION FILE [options]\n");
+    told(
+        &rt,
+        alloc,
+        &Err(Cause::Usage),
+        b"usage: ccrun ACTION FILE [options]\n",
+    );
     told(&rt, alloc, &Err(Cause::Shelf), b"shelf\n");
     told(&rt, alloc, &Err(Cause::Write), b"write\n");
     told(&rt, alloc, &Err(Cause::Memory), b"memory\n");
@@ -102,7 +122,12 @@ fn two(alloc: Global) -> Result<Ending, Fail> {
 fn two_processes(rt: HostRuntime) -> Result<(), Fail> {
     let alloc = rt.alloc();
     let ending = two(alloc)?;
-    told(&rt, alloc, &Ok(ending), b"process 3: Overflow\nprocess 4095: Index\n");
+    told(
+        &rt,
+        alloc,
+        &Ok(ending),
+        b"process 3: Overflow\nprocess 4095: Index\n",
+    );
     Ok(())
 }
 

@@ -41,7 +41,11 @@ fn programs_are_read(rt: HostRuntime) {
     meant(&rt, alloc, b"main() { putchar(72); putchar(105); }");
     meant(&rt, alloc, b"main(){}");
     meant(&rt, alloc, b"main() { putchar(0x48); /* i */ }");
-    meant(&rt, alloc, b"main(){putchar(00);putchar(0377);}// to the end");
+    meant(
+        &rt,
+        alloc,
+        b"main(){putchar(00);putchar(0377);}// to the end",
+    );
     meant(
         &rt,
         alloc,
@@ -53,7 +57,13 @@ fn programs_are_read(rt: HostRuntime) {
 fn faults_of_tokens(rt: HostRuntime) {
     let alloc = rt.alloc();
     lexical(&rt, alloc, b"main() { @", 10, LexKind::NoToken);
-    lexical(&rt, alloc, b"main() { putchar(08); }", 18, LexKind::BadNumber);
+    lexical(
+        &rt,
+        alloc,
+        b"main() { putchar(08); }",
+        18,
+        LexKind::BadNumber,
+    );
     lexical(
         &rt,
         alloc,
@@ -61,8 +71,20 @@ fn faults_of_tokens(rt: HostRuntime) {
         18,
         LexKind::NumberTooLarge,
     );
-    lexical(&rt, alloc, b"main() { putchar(''); }", 18, LexKind::BadCharacter);
-    lexical(&rt, alloc, b"main() { printf(\"a); }", 17, LexKind::BadString);
+    lexical(
+        &rt,
+        alloc,
+        b"main() { putchar(''); }",
+        18,
+        LexKind::BadCharacter,
+    );
+    lexical(
+        &rt,
+        alloc,
+        b"main() { printf(\"a); }",
+        17,
+        LexKind::BadString,
+    );
     lexical(&rt, alloc, b"main() { } /* x", 12, LexKind::OpenComment);
 }
 

@@ -4,11 +4,11 @@ use Rattle.cc_command.proofs.command.command_one.Goals as goal
 
 pub returns-clause-first_fault : goal.returns-clause-first_fault
 returns-clause-first_fault g c =
-    rw c.status_number.ensures (tells _ _ _ c.run_file-ran.result.answer c.run_file-ran.ensures.text c.report.ensures.told)
+    rw c.status_number.ensures (tells _ _ _ _ _ _ _ _ c.run_file-ran.result.answer c.run_file-ran.ensures.text c.report.ensures.told)
 
 pub returns-clause-headline : goal.returns-clause-headline
 returns-clause-headline g c =
-    rw c.status_number.ensures (goes _ _ _ c.run_file-ran.result.answer _ _ _ c.run_file-ran.ensures.done c.report.ensures.told)
+    rw c.status_number.ensures (goes _ _ _ _ _ _ _ _ c.run_file-ran.result.answer _ _ _ c.run_file-ran.ensures.done c.report.ensures.told)
 
 pub returns-clause-unbegun : goal.returns-clause-unbegun
 returns-clause-unbegun g c = rw c.status_number.ensures (λ among. c.run_file-ran.ensures.unbegun (is_refused c.run_file-ran.result.answer among))
@@ -32,7 +32,7 @@ returns-clause-refuses g c = rw c.status_number.ensures (λ file text is tells n
 pub returns-clause-reports : goal.returns-clause-reports
 returns-clause-reports g c = rw c.status_number.ensures (λ file text place kind is tells has kept.
     let r = c.run_file-ran.ensures in
-    reports c.run_file-ran.result.answer _ _ _ _ _ _ r.usage r.done r.well r.text r.shelf r.write r.sink file is _ c.report.ensures.told text place kind tells has kept)
+    reports c.run_file-ran.result.answer _ _ _ _ _ _ r.usage r.done r.well r.text r.shelf r.write r.sink file is _ _ _ _ _ _ c.report.ensures.told text place kind tells has kept)
 
 pub returns-clause-absent : goal.returns-clause-absent
 returns-clause-absent g c = rw c.status_number.ensures (λ file is none.
@@ -40,4 +40,4 @@ returns-clause-absent g c = rw c.status_number.ensures (λ file is none.
     absent c.run_file-ran.result.answer _ _ _ _ _ _ r.usage r.done r.well r.text r.shelf r.write r.sink file is none)
 
 pub returns-clause-report : goal.returns-clause-report
-returns-clause-report g c = rw c.status_number.ensures (one_line _ c.run_file-ran.result.answer c.report.ensures.told)
+returns-clause-report g c = rw c.status_number.ensures (one_line _ _ _ _ _ _ c.run_file-ran.result.answer c.report.ensures.told)
