@@ -107,12 +107,12 @@ same-cause e x is =
     let same : e ≡ x = cc in
     ap (λ c. Result.Err c) same
 
-pub same-text : {T U : Type 0} (cause : Cause) (Is : Place → TextFaultKind → Type 0) → IfText {T = T} (Result.Err cause) Is → IfText {T = U} (Result.Err cause) Is
-same-text Usage Is told = tt
-same-text (Text fault) Is told = told
-same-text Shelf Is told = tt
-same-text Write Is told = tt
-same-text Memory Is told = tt
+pub same-text : (T U : Type 0) (cause : Cause) (Is : Place → TextFaultKind → Type 0) → IfText {T = T} (Result.Err cause) Is → IfText {T = U} (Result.Err cause) Is
+same-text T U Usage Is told = tt
+same-text T U (Text fault) Is told = told
+same-text T U Shelf Is told = tt
+same-text T U Write Is told = tt
+same-text T U Memory Is told = tt
 
 module _ (asked : Option (List ℕ)) (files : Option Files) (h0 h1 : Option (List ℕ)) (f0 f1 w0 w1 : ℕ) where
   -- these lines were reported, or a first part of them

@@ -1,5 +1,5 @@
 -- What a file holds of which the first bytes were read.
-use Rattle.std.proofs.Common.{◌≡◌, ℕ, ◌≤◌, ◌<◌, List, [], length, take, take_all, Option, Some, None, refl, sym, ◌∙◌, ap, subst, arith}
+use Rattle.std.proofs.Common.{◌≡◌, ℕ, ◌≤◌, ◌<◌, List, [], length, take, take_all, Option, Some, None, refl, sym, ◌∙◌, ap, subst, arith, Result}
 use Rattle.std.specs.Prelude.{option_map, unwrap_or}
 use Rattle.std.proofs.lemmas.List.{length-take}
 use Rattle.std.specs.FinMap as map
@@ -7,7 +7,10 @@ use Rattle.cc_base.specs.declared.names.Place.{Place}
 use Rattle.cc_lex.specs.Spells.{FirstFault, too_long, at_piece}
 use Rattle.cc_lex.specs.declared.fault.LexKind.{LexKind}
 use Rattle.cc_command.specs.Outcomes.{FileHasFault, FileMeans, HoldsProgram, HoldsText}
-use Rattle.cc_command.specs.Texts.{HasFault, MeansProgram}
+use Rattle.cc_command.specs.Texts.{HasFault, IfFault, MeansProgram}
+use Rattle.cc_command.specs.declared.text_fault.ReadError.{ReadError}
+use Rattle.cc_command.specs.declared.text_fault.ReadError.TheVariants.{Fault}
+use Rattle.cc_command.specs.declared.text_fault.TextFault.{TextFault}
 use Rattle.cc_command.specs.declared.text_fault.TextFaultKind.{TextFaultKind}
 use Rattle.cc_command.specs.declared.text_fault.TextFaultKind.TheVariants.{Tokens, Syntax, TooDeep, Unbuilt}
 use Rattle.cc_typed.specs.Parts.{Parts}
@@ -47,6 +50,13 @@ file_has_fault None name text place kind is fault = record { text = text; held =
 file_has_fault (Some m) name text place kind is fault =
     let f = contents_of (map.get m name) text is in
     record { text = f.0; held = f.1; fault = same_fault f.0 text place kind f.2 fault }
+
+pub fault_is :
+    {T : Type 0} (Is : Place → TextFaultKind → Type 0) (error : ReadError) (fault : TextFault)
+    → error ≡ Fault fault
+    → IfFault {T = T} (Result.Err error) Is
+    → Is fault.place fault.kind
+fault_is {T} Is error fault e told = subst (λ (x : ReadError). IfFault {T = T} (Result.Err x) Is) e told
 
 -- what follows for the program of a text holds of the file's
 pub of_program :

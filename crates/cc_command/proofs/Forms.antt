@@ -42,6 +42,7 @@ third (a ∷ b ∷ c ∷ rest) = value_of c
 third _ = pos 0
 
 same_byte : (m n : ℕ) (r s : List What) → put m r ≡ put n s → m ≡ n
+unfolding third value_of
 same_byte m n r s e =
     let same : pos m ≡ pos n = ap third e in
     cc
@@ -54,6 +55,7 @@ front [] = what.Word word.Putchar
 front (w ∷ ws) = w
 
 no_put : (m : ℕ) (r : List What) → put m r ≡ closing → ⊥
+unfolding front
 no_put m r e =
     let same : what.Word word.Putchar ≡ what.Mark mark.CloseBrace = ap front e in
     cc

@@ -75,9 +75,9 @@ pub no_faulty_program : (text : List ℕ) (program : Parts) (place : Place) (kin
 no_faulty_program text program place (Tokens kind) means fault = no_tokens_fault text means.list place kind means.read.tokens fault
 no_faulty_program text program place Syntax means fault =
     let found = syntax_of text means.list place means.read.tokens fault in
-    tree_or_syntax means.list means.tree found.0 place means.read.tree found.1
+    tree_or_syntax means.list means.tree found.0 place means.read.sentence found.1
 no_faulty_program text program place TooDeep means fault =
-    tree_or_deep means.list means.tree place means.read.tree (deep_of text means.list place means.read.tokens fault)
+    tree_or_deep means.list means.tree place means.read.sentence (deep_of text means.list place means.read.tokens fault)
 no_faulty_program text program place Unbuilt means fault =
     fault.3 program (built_of means.list fault.0 program (same_tokens text means.list fault.0 means.read.tokens fault.2.tokens) means.built)
 
@@ -89,12 +89,12 @@ one_fault text p q (Tokens k) Unbuilt a b = absurd (no_tokens_fault text b.0 p k
 one_fault text p q Syntax (Tokens l) a b = absurd (no_tokens_fault text a.0 q l a.1 b)
 one_fault text p q Syntax Syntax a b = (let other = syntax_of text a.0 q a.1 b in (one_syntax a.0 a.2.0 other.0 p q a.2.1 other.1, refl))
 one_fault text p q Syntax TooDeep a b = absurd (syntax_or_deep a.0 a.2.0 p q a.2.1 (deep_of text a.0 q a.1 b))
-one_fault text p q Syntax Unbuilt a b = absurd (let found = syntax_of text b.0 p b.2.tokens a in tree_or_syntax b.0 b.1 found.0 p b.2.tree found.1)
+one_fault text p q Syntax Unbuilt a b = absurd (let found = syntax_of text b.0 p b.2.tokens a in tree_or_syntax b.0 b.1 found.0 p b.2.sentence found.1)
 one_fault text p q TooDeep (Tokens l) a b = absurd (no_tokens_fault text a.0 q l a.1 b)
 one_fault text p q TooDeep Syntax a b = absurd (let found = syntax_of text a.0 q a.1 b in syntax_or_deep a.0 found.0 q p found.1 a.2)
 one_fault text p q TooDeep TooDeep a b = (one_deep a.0 p q a.2 (deep_of text a.0 q a.1 b), refl)
-one_fault text p q TooDeep Unbuilt a b = absurd (tree_or_deep b.0 b.1 p b.2.tree (deep_of text b.0 p b.2.tokens a))
+one_fault text p q TooDeep Unbuilt a b = absurd (tree_or_deep b.0 b.1 p b.2.sentence (deep_of text b.0 p b.2.tokens a))
 one_fault text p q Unbuilt (Tokens l) a b = absurd (no_tokens_fault text a.0 q l a.2.tokens b)
-one_fault text p q Unbuilt Syntax a b = absurd (let found = syntax_of text a.0 q a.2.tokens b in tree_or_syntax a.0 a.1 found.0 q a.2.tree found.1)
-one_fault text p q Unbuilt TooDeep a b = absurd (tree_or_deep a.0 a.1 q a.2.tree (deep_of text a.0 q a.2.tokens b))
+one_fault text p q Unbuilt Syntax a b = absurd (let found = syntax_of text a.0 q a.2.tokens b in tree_or_syntax a.0 a.1 found.0 q a.2.sentence found.1)
+one_fault text p q Unbuilt TooDeep a b = absurd (tree_or_deep a.0 a.1 q a.2.sentence (deep_of text a.0 q a.2.tokens b))
 one_fault text p q Unbuilt Unbuilt a b = (a.4 ∙ sym b.4, refl)

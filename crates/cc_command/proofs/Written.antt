@@ -1,9 +1,11 @@
 -- Pieces written to a sink, one after the other.
-use Rattle.std.proofs.Common.{◌≡◌, ℕ, ◌+◌, ◌≤◌, ◌<◌, List, [], ◌∷◌, ◌++◌, length, take, get_or, Option, Some, None, Result, Ok, Err, refl, sym, ◌∙◌, ap, subst, arith, length-append, inl, inr}
-use Rattle.std.specs.Prelude.{OnOk, OnErr, IsErrOf}
+use Rattle.std.proofs.Common.{◌≡◌, ℕ, ◌+◌, ◌≤◌, ◌<◌, List, [], ◌∷◌, ◌++◌, length, take, drop, get_or, Option, Some, None, Result, Ok, Err, refl, sym, ◌∙◌, ap, subst, arith, length-append, inl, inr}
+use Rattle.std.specs.Prelude.{OnOk, OnErr, IsErrOf, slice_get}
+use Rattle.std.proofs.lemmas.Option.{get_or_from_slice_get}
 use Rattle.std.specs.List.{flat_map}
 use Rattle.std.proofs.Math.Seq.{take-append-add}
-use Rattle.std.proofs.lemmas.List.{flat_map_more, take_all, take_more, take-append-le}
+use Rattle.std.proofs.lemmas.Grind.{flat_map-append}
+use Rattle.std.proofs.lemmas.List.{flat_map_more, take-append-drop, take-append-le, take_more}
 use Rattle.cc_world.proofs.Grown.{grown_twice, not_grown}
 use Rattle.cc_world.specs.Causes.{HasCause, HasWant, Rose}
 use Rattle.cc_world.specs.Told.{GrewBy, GrewByPart, Reported, with_bytes}
@@ -81,6 +83,15 @@ pub stopped : (h0 h1 : Option (List ℕ)) (f0 f1 w0 w1 : ℕ) (a b : List ℕ) (
 stopped h0 h1 f0 f1 w0 w1 a b e front =
     record { done = tt; part = part_front h0 h1 a b front.part; cause = front.cause; want = front.want }
 
+-- what one write gives that stopped
+pub wrote_part :
+    (h0 h1 : Option (List ℕ)) (f0 f1 w0 w1 : ℕ) (bytes : List ℕ) (e : IoFault)
+    → GrewByPart h0 h1 bytes
+    → HasCause f0 f1 (let err : Written = Err e in err)
+    → HasWant w0 w1 (let err : Written = Err e in err)
+    → Wrote h0 h1 bytes f0 f1 w0 w1 (let err : Written = Err e in err)
+wrote_part h0 h1 f0 f1 w0 w1 bytes e part cause want = record { done = tt; part = part; cause = cause; want = want }
+
 -- what is reported, however writing ended
 pub reported : (h0 h1 : Option (List ℕ)) (f0 f1 w0 w1 : ℕ) (line : List ℕ) (result : Written) → Wrote h0 h1 line f0 f1 w0 w1 result → Reported h0 h1 line f0 f1 w0 w1
 reported h0 h1 f0 f1 w0 w1 line (Ok x) wrote = inl wrote.done
@@ -92,3 +103,46 @@ reported h0 h1 f0 f1 w0 w1 line (Err Memory) wrote = inr (wrote.part, inr (wrote
 module _ {A : Type 0} (f : A → List ℕ) (xs : List A) (i : ℕ) (d : A) (lt : i < length xs) where
   pub one_more : flat_map f (take i xs) ++ f (get_or xs i d) ≡ flat_map f (take (i + 1) xs)
   one_more = flat_map_more f [] (take i xs) (get_or xs i d) ∙ ap (flat_map f) (sym (take_more xs i d lt))
+
+module _ {A : Type 0} (f : A → List ℕ) (xs : List A) (i : ℕ) (d : A) (lt : i < length xs) where
+  -- the pieces before this one, this one, and those behind it
+  all_pieces : (flat_map f (take i xs) ++ f (get_or xs i d)) ++ flat_map f (drop (i + 1) xs) ≡ flat_map f xs
+  all_pieces =
+      ap (λ ys. ys ++ flat_map f (drop (i + 1) xs)) (one_more f xs i d lt)
+      ∙ sym (flat_map-append f (take (i + 1) xs) (drop (i + 1) xs))
+      ∙ ap (flat_map f) (take-append-drop (i + 1) xs)
+
+  -- writing stopped within this piece
+  pub stopped_at :
+      (h0 h1 h2 : Option (List ℕ)) (f0 f1 f2 w0 w1 w2 : ℕ) (e : IoFault)
+      → Wrote h0 h1 (flat_map f (take i xs)) f0 f1 w0 w1 (let ok : Written = Ok tt in ok)
+      → Wrote h1 h2 (f (get_or xs i d)) f1 f2 w1 w2 (let err : Written = Err e in err)
+      → Wrote h0 h2 (flat_map f xs) f0 f2 w0 w2 (let err : Written = Err e in err)
+  stopped_at h0 h1 h2 f0 f1 f2 w0 w1 w2 e front more =
+      subst (λ (bytes : List ℕ). Wrote h0 h2 bytes f0 f2 w0 w2 (let err : Written = Err e in err)) all_pieces
+      (stopped h0 h2 f0 f2 w0 w2 (flat_map f (take i xs) ++ f (get_or xs i d)) (flat_map f (drop (i + 1) xs)) e
+      (wrote_more h0 h1 h2 f0 f1 f2 w0 w1 w2 (flat_map f (take i xs)) (f (get_or xs i d)) front (let err : Written = Err e in err) more))
+
+module _ {A : Type 0} (f : A → List ℕ) (xs : List A) (i : ℕ) (x : A) (lt : i < length xs) (there : slice_get xs i ≡ Some x) where
+  same_piece : f (get_or xs i x) ≡ f x
+  same_piece = ap f (get_or_from_slice_get xs i x x there)
+
+  -- this piece was written, too
+  pub more_written :
+      (h0 h1 h2 : Option (List ℕ)) (f0 f1 f2 w0 w1 w2 : ℕ)
+      → Wrote h0 h1 (flat_map f (take i xs)) f0 f1 w0 w1 (let ok : Written = Ok tt in ok)
+      → Wrote h1 h2 (f x) f1 f2 w1 w2 (let ok : Written = Ok tt in ok)
+      → Wrote h0 h2 (flat_map f (take (i + 1) xs)) f0 f2 w0 w2 (let ok : Written = Ok tt in ok)
+  more_written h0 h1 h2 f0 f1 f2 w0 w1 w2 front more =
+      subst (λ (bytes : List ℕ). Wrote h0 h2 bytes f0 f2 w0 w2 (let ok : Written = Ok tt in ok)) (ap (λ b. flat_map f (take i xs) ++ b) (sym same_piece) ∙ one_more f xs i x lt)
+      (wrote_more h0 h1 h2 f0 f1 f2 w0 w1 w2 (flat_map f (take i xs)) (f x) front (let ok : Written = Ok tt in ok) more)
+
+  -- writing stopped within this piece
+  pub stopped_in :
+      (h0 h1 h2 : Option (List ℕ)) (f0 f1 f2 w0 w1 w2 : ℕ) (e : IoFault)
+      → Wrote h0 h1 (flat_map f (take i xs)) f0 f1 w0 w1 (let ok : Written = Ok tt in ok)
+      → Wrote h1 h2 (f x) f1 f2 w1 w2 (let err : Written = Err e in err)
+      → Wrote h0 h2 (flat_map f xs) f0 f2 w0 w2 (let err : Written = Err e in err)
+  stopped_in h0 h1 h2 f0 f1 f2 w0 w1 w2 e front more =
+      stopped_at f xs i x lt h0 h1 h2 f0 f1 f2 w0 w1 w2 e front
+      (subst (λ (bytes : List ℕ). Wrote h1 h2 bytes f1 f2 w1 w2 (let err : Written = Err e in err)) (sym same_piece) more)

@@ -21,7 +21,7 @@ HasTokens text list = (length text ≤ longest_text) × Spells text list
 -- these tokens spell the text, and are those of the tree
 pub record HasTree (text : List ℕ) (list : TokenList) (tree : Tree) : Type 0 where
   pub tokens : HasTokens text list
-  pub tree : IsTree list tree
+  pub sentence : IsTree list tree
 
 -- the program of these tokens, where their form is built
 pub record IsBuilt (list : TokenList) (program : Parts) : Type 0 where

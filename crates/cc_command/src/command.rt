@@ -109,7 +109,7 @@ pub struct Finished<K, C> {
 /// The program prints to `out`, and what is reported on `err` tells the cause of any status but 0. What is said of the file's
 /// text holds where the shelf tells what it holds, and of some text where it doesn't.
 /// The input and the clock are for programs that ask for them, and no program does yet.
-#[tactic(auto, using(crate::proofs::Ends::is_cause))]
+#[tactic(auto, using(crate::proofs::Ends::is_usage, crate::proofs::Ends::is_shelf, crate::proofs::Ends::is_write, crate::proofs::Ends::is_memory))]
 pub fn command_one<H: Shelf, S: Source, K: Sink, E: Sink, C: Clock>(
     alloc: Global,
     words: &Words,

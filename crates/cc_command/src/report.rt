@@ -1,4 +1,4 @@
-ghost use Rattle.std.specs.Prelude.{◌≡◌};
+ghost use Rattle.std.specs.Prelude.{◌≡◌, ◌<◌, length, slice_get, Some};
 ghost use Rattle.cc_command.specs.ProcessFaults.{fault_name};
 ghost use Rattle.cc_command.specs.Reports.{bytes_of, fault_line, process_line, process_lines, Wrote};
 ghost use Rattle.cc_command.specs.Statuses.{report_for, report_in, report_of, status_of};
@@ -70,14 +70,23 @@ fn write_process<E: Sink>(err: &mut E, fault: (Pid, FaultKind)) -> Result<(), Io
     write_pieces(err, &pieces)
 }
 
+/// The process and its fault at an index.
+fn fault_at(faults: &Faults, at: usize) -> (Pid, FaultKind)
+    requires { at < length faults.now.items }
+    ensures { slice_get faults.now.items at ≡ Some result }
+{
+    match faults.get(at) {
+        Some(fault) => *fault,
+        None => unreachable!(),
+    }
+}
+
 /// Writes a line for each process that was stopped by a fault.
 fn write_processes<E: Sink>(err: &mut E, faults: &Faults) -> Result<(), IoFault>
     ensures { Wrote (E.held err.old) (E.held err.new) (process_lines faults.now.items) (E.faults err.old) (E.faults err.new) (E.wants err.old) (E.wants err.new) result }
 {
-    let mut at = 0;
-    while let Some(fault) = faults.get(at) {
-        write_process(err, *fault)?;
-        at += 1;
+    for at in 0..faults.len() {
+        write_process(err, fault_at(faults, at))?;
     }
     Ok(())
 }

@@ -1,4 +1,4 @@
-use Rattle.std.proofs.Common.{◌∙◌, ap}
+use Rattle.std.proofs.Common.{None}
 use Rattle.cc_command.proofs.Ends.{if_both}
 use Rattle.cc_command.proofs.Finishes.{finishes, same-meaning, stops, wants, well}
 use Rattle.cc_kernel.proofs.Untimed.{asks-no-deadline}
@@ -26,7 +26,7 @@ returns-clause-well g c =
     let same = same-meaning text c.args.program.now.value means in
     let run = rw (same, c.new.ensures) at c.drive-ran.ensures.run in
     let end = rw (same, c.new.ensures) at (c.drive-ran.ensures.over over) in
-    well text c.args.program.now.value means _ _ _ _ _ run c.drive-ran.ensures.untimed ending so end.over)
+    well text c.args.program.now.value means _ _ _ None None run c.drive-ran.ensures.untimed ending so end.over)
     c.answer.ensures.over c.answer.ensures.ending
 
 pub returns-clause-write : goal.returns-clause-write
