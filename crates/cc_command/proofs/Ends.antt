@@ -101,19 +101,6 @@ pub if_both : {T E : Type 0} (P Q R : T → Type 0) (answer : Result T E) → ((
 if_both P Q R (Result.Ok x) follows p q = follows x p q
 if_both P Q R (Result.Err e) follows p q = tt
 
--- the cause of a refusal is the same, whatever would have been the answer
-pub same-cause : {T U E : Type 0} (e x : E) → IsErrOf {T = T} (Result.Err e) x → IsErrOf {T = U} (Result.Err e) x
-same-cause e x is =
-    let same : e ≡ x = cc in
-    ap (λ c. Result.Err c) same
-
-pub same-text : (T U : Type 0) (cause : Cause) (Is : Place → TextFaultKind → Type 0) → IfText {T = T} (Result.Err cause) Is → IfText {T = U} (Result.Err cause) Is
-same-text T U Usage Is told = tt
-same-text T U (Text fault) Is told = told
-same-text T U Shelf Is told = tt
-same-text T U Write Is told = tt
-same-text T U Memory Is told = tt
-
 module _ (asked : Option (List ℕ)) (files : Option Files) (h0 h1 : Option (List ℕ)) (f0 f1 w0 w1 : ℕ) where
   -- these lines were reported, or a first part of them
   abbrev Reports : List ℕ → Type 0

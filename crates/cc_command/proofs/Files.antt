@@ -52,11 +52,11 @@ file_has_fault (Some m) name text place kind is fault =
     record { text = f.0; held = f.1; fault = same_fault f.0 text place kind f.2 fault }
 
 pub fault_is :
-    {T : Type 0} (Is : Place → TextFaultKind → Type 0) (error : ReadError) (fault : TextFault)
+    (Is : Place → TextFaultKind → Type 0) (error : ReadError) (fault : TextFault)
     → error ≡ Fault fault
-    → IfFault {T = T} (Result.Err error) Is
+    → IfFault {T = Unit {0}} (Result.Err error) Is
     → Is fault.place fault.kind
-fault_is {T} Is error fault e told = subst (λ (x : ReadError). IfFault {T = T} (Result.Err x) Is) e told
+fault_is Is error fault e told = subst (λ (x : ReadError). IfFault {T = Unit {0}} (Result.Err x) Is) e told
 
 -- what follows for the program of a text holds of the file's
 pub of_program :

@@ -1,5 +1,5 @@
 use Rattle.std.proofs.Common.{inr}
-use Rattle.cc_command.proofs.Ends.{if_ok, same-text}
+use Rattle.cc_command.proofs.Ends.{if_ok}
 use Rattle.cc_command.proofs.Files.{of_program}
 use Rattle.cc_command.proofs.command.run_file.Goals as goal
 
