@@ -1,12 +1,10 @@
 -- A status tells how the command ended.
-use Rattle.std.proofs.Common.{◌≡◌, ◌≤◌, ℕ, List, [], ◌∷◌, Option, Some, None, refl, sym, ◌∙◌, ap, subst, arith, Result, Contains, IfOk}
+use Rattle.std.proofs.Common.{◌≡◌, ℕ, List, [], ◌∷◌, Option, Some, None, refl, sym, ap, subst, arith, Result, Contains, IfOk}
 use Rattle.std.specs.Prelude.{◌==◌, IfSome, IsErrOf, unwrap_or, if◌then◌else◌}
 use Rattle.std.proofs.lemmas.Map.Made.{Contains-tail}
 use Rattle.cc_command.specs.Outcomes.{faults_of, FileHasFault, HoldsProgram, ReportsFault, RunsAsFarAsItGoes, RunsTo}
 use Rattle.cc_command.specs.Reports.{line_of, run_report}
 use Rattle.cc_command.specs.Statuses.{IfText, IsRefused, report_of, status_for, status_in, status_of}
-use Rattle.cc_base.specs.declared.names.Place.{Place}
-use Rattle.cc_command.specs.declared.text_fault.TextFaultKind.{TextFaultKind}
 use Rattle.cc_command.specs.declared.cause.Cause.{Cause}
 use Rattle.cc_command.specs.declared.cause.Cause.TheVariants.{Usage, Text, Shelf, Write, Memory}
 use Rattle.cc_command.specs.declared.cause.Ending.{Ending}

@@ -1,5 +1,5 @@
 -- How a run ends of the program of a text of `putchar` statements.
-use Rattle.std.proofs.Common.{◌≡◌, ℕ, ◌+◌, ◌≤◌, ◌<◌, ◌⊎◌, inl, inr, true, false, not, ◌&&◌, Bool, Some, sym, List, [], length, Option, refl, ap, ◌∙◌, subst, arith}
+use Rattle.std.proofs.Common.{◌≡◌, ℕ, ◌+◌, ◌≤◌, ◌<◌, inl, inr, true, false, not, ◌&&◌, Bool, Some, sym, List, [], length, Option, refl, ap, ◌∙◌, subst, arith}
 use Rattle.std.proofs.lemmas.Bool.Decides.{nat_tests}
 use Rattle.std.specs.List.{AllPass}
 use Rattle.std.specs.Prelude.{All, nat_eq, if◌then◌else◌}

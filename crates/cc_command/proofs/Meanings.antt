@@ -1,9 +1,8 @@
 -- A text means one program, or has one first fault.
-use Rattle.std.proofs.Common.{◌≡◌, ◌≢◌, ◌⊎◌, inl, inr, ℕ, List, Result, Ok, Err, refl, sym, ◌∙◌, ap, subst}
+use Rattle.std.proofs.Common.{◌≡◌, inl, inr, ℕ, List, Ok, Err, refl, sym, ◌∙◌, ap, subst}
 use Rattle.cc_base.specs.declared.names.Place.{Place}
 use Rattle.cc_grammar.proofs.One.{one_answer}
-use Rattle.cc_grammar.specs.Sentences.{IsSyntax, IsTooDeep, IsTree, Parses}
-use Rattle.cc_grammar.specs.declared.fault.ParseError.{ParseError}
+use Rattle.cc_grammar.specs.Sentences.{IsSyntax, IsTooDeep, IsTree}
 use Rattle.cc_grammar.specs.declared.fault.ParseError.TheVariants as error
 use Rattle.cc_grammar.specs.declared.tree.Tree.{Tree}
 use Rattle.cc_lex.proofs.Unique as unique
@@ -12,7 +11,7 @@ use Rattle.cc_lex.specs.TokenList.{TokenList}
 use Rattle.cc_lex.specs.declared.fault.LexKind.{LexKind}
 use Rattle.cc_command.proofs.Forms.{same_bytes}
 use Rattle.cc_command.specs.Program.{program_of}
-use Rattle.cc_command.specs.Texts.{HasFault, HasTokens, HasTree, IsBuilt, MeansProgram}
+use Rattle.cc_command.specs.Texts.{HasFault, HasTokens, IsBuilt, MeansProgram}
 use Rattle.cc_command.specs.declared.text_fault.TextFaultKind.{TextFaultKind}
 use Rattle.cc_command.specs.declared.text_fault.TextFaultKind.TheVariants.{Tokens, Syntax, TooDeep, Unbuilt}
 use Rattle.cc_typed.specs.Parts.{Parts}

@@ -1,5 +1,5 @@
 -- How many statements a text has at most.
-use Rattle.std.proofs.Common.{◌≡◌, ℕ, ◌+◌, ◌*◌, ◌≤◌, ◌<◌, List, [], ◌∷◌, ◌++◌, length, refl, ap, ◌∙◌, arith, length-append}
+use Rattle.std.proofs.Common.{◌≡◌, ℕ, ◌+◌, ◌*◌, ◌≤◌, ◌<◌, List, [], ◌∷◌, ◌++◌, length, refl, ap, arith, length-append}
 use Rattle.std.proofs.lemmas.List.{length-map}
 use Rattle.std.specs.List.{flat_map}
 use Rattle.cc_base.specs.declared.names.Place.{Place}
@@ -7,7 +7,7 @@ use Rattle.cc_lex.proofs.Fits.{is-some}
 use Rattle.cc_lex.specs.Spells.{Ending, Reads, whole, faulty, space, comment, token}
 use Rattle.cc_lex.specs.declared.piece.Piece.TheVariants as piece
 use Rattle.cc_lex.specs.declared.token.Token.{Token}
-use Rattle.cc_command.specs.Form.{IsForm, closing, opening, statement_of, whats}
+use Rattle.cc_command.specs.Form.{IsForm, closing, opening, statement_of}
 use Rattle.cc_command.specs.Texts.{MeansProgram}
 use Rattle.cc_typed.specs.Parts.{Parts}
 
