@@ -1,12 +1,20 @@
 -- Which answers are left where the shelf tells the text.
-use Rattle.std.proofs.Common.{◌≡◌, ◌⊎◌, inl, inr, ℕ, List, Option, Some, None, refl, sym, ◌∙◌, ap, subst, Result}
-use Rattle.std.specs.Prelude.{IfSome, IsErrOf, OnOk}
-use Rattle.cc_command.specs.Form.{IsProgram}
-use Rattle.cc_command.specs.Outcomes.{HoldsNoProgram, HoldsProgram, HoldsText, TellsNone, TellsText}
-use Rattle.cc_command.specs.Statuses.{status_of}
+use Rattle.std.proofs.Common.{◌≡◌, ◌⊎◌, inl, inr, ℕ, List, Option, Some, None, refl, sym, ◌∙◌, ap, subst, Result, IfOk}
+use Rattle.std.specs.Prelude.{IfSome, IsErrOf}
+use Rattle.cc_base.specs.declared.names.Place.{Place}
+use Rattle.cc_command.proofs.Meanings as meanings
+use Rattle.cc_command.specs.Outcomes.{FileHasFault, FileMeans, HoldsProgram, HoldsText, TellsNone, TellsText}
+use Rattle.cc_command.specs.Reports.{fault_line}
+use Rattle.cc_command.specs.Statuses.{IfText, report_of, status_in, status_of}
+use Rattle.cc_command.specs.Texts.{HasFault, MeansProgram}
 use Rattle.cc_command.specs.declared.cause.Cause.{Cause}
 use Rattle.cc_command.specs.declared.cause.Cause.TheVariants.{Usage, Text, Shelf, Write, Memory}
+use Rattle.cc_command.specs.declared.cause.Ending.{Ending}
+use Rattle.cc_command.specs.declared.cause.Ending.TheVariants.{Well}
+use Rattle.cc_command.specs.declared.text_fault.TextFaultKind.{TextFaultKind}
+use Rattle.cc_typed.specs.Parts.{Parts}
 use Rattle.cc_world.specs.Shelf.{Files}
+use Rattle.cc_world.specs.Told.{Reported}
 
 -- what holds of the file asked for holds of this one
 of_file : (asked : Option (List ℕ)) (file : List ℕ) (P : List ℕ → Type 0) → asked ≡ Some file → IfSome asked P → P file
@@ -25,83 +33,104 @@ not_absent (Some m) file text held absent =
     let found : Some (Some text) ≡ Some None = ap (λ (t : Option (List ℕ)). Some t) (sym held) ∙ absent in
     cc
 
-is_no_program : (files : Option Files) (file text bytes : List ℕ) → HoldsNoProgram files file → TellsText files file text → IsProgram text bytes → ⊥
-is_no_program files file text bytes empty tells program =
-    empty.no_program bytes (subst (λ (t : List ℕ). IsProgram t bytes) (sym (same_text files file empty.text text empty.held tells)) program)
+meant : (files : Option Files) (file text : List ℕ) (program : Parts) → FileMeans files file program → TellsText files file text → MeansProgram text program
+meant files file text program has tells = subst (λ (t : List ℕ). MeansProgram t program) (same_text files file has.text text has.held tells) has.means
 
-is_program : (files : Option Files) (file text : List ℕ) (Then : List ℕ → Type 0) → HoldsProgram files file Then → TellsText files file text → ((bytes : List ℕ) → ¬ IsProgram text bytes) → ⊥
-is_program files file text Then is tells none =
-    none is.bytes (subst (λ (t : List ℕ). IsProgram t is.bytes) (same_text files file is.text text is.held tells) is.program)
+faulty : (files : Option Files) (file text : List ℕ) (place : Place) (kind : TextFaultKind) → FileHasFault files file place kind → TellsText files file text → HasFault text place kind
+faulty files file text place kind has tells = subst (λ (t : List ℕ). HasFault t place kind) (same_text files file has.text text has.held tells) has.fault
 
-pub runs :
-    {T : Type 0} (answer : Result T Cause) (asked : Option (List ℕ)) (files : Option Files) (Missed : List ℕ → Type 0) (Risen : Type 0)
-    → (IsErrOf answer Usage → asked ≡ None)
-    → (IsErrOf answer Text → IfSome asked (HoldsNoProgram files))
-    → (IsErrOf answer Shelf → IfSome asked Missed)
-    → (IsErrOf answer Write → Risen)
-    → (file text bytes : List ℕ)
-    → asked ≡ Some file
-    → TellsText files file text
-    → IsProgram text bytes
-    → ¬ Missed file
-    → ¬ Risen
-    → (status_of answer ≡ 0) ⊎ (status_of answer ≡ 9)
-runs (Result.Ok x) asked files Missed Risen usage fault shelf sink file text bytes is tells program kept still = inl refl
-runs (Result.Err Usage) asked files Missed Risen usage fault shelf sink file text bytes is tells program kept still =
-    let none : asked ≡ None = usage refl in
-    cc
-runs (Result.Err Text) asked files Missed Risen usage fault shelf sink file text bytes is tells program kept still =
-    absurd (is_no_program files file text bytes (of_file asked file (HoldsNoProgram files) is (fault refl)) tells program)
-runs (Result.Err Shelf) asked files Missed Risen usage fault shelf sink file text bytes is tells program kept still =
-    absurd (kept (of_file asked file Missed is (shelf refl)))
-runs (Result.Err Write) asked files Missed Risen usage fault shelf sink file text bytes is tells program kept still = absurd (still (sink refl))
-runs (Result.Err Memory) asked files Missed Risen usage fault shelf sink file text bytes is tells program kept still = inr refl
+module _ (answer : Result Ending Cause) (asked : Option (List ℕ)) (files : Option Files) (Missed : List ℕ → Type 0) (Risen : Type 0) (Then : Ending → Parts → Type 0) (Cut : Parts → Type 0) (usage : IsErrOf answer Usage → asked ≡ None) (done : IfOk answer (λ ending. IfSome asked (λ file. HoldsProgram files file (Then ending)))) (well : IfOk answer (λ ending. ending ≡ Well)) (fault : IfText answer (λ place kind. IfSome asked (λ file. FileHasFault files file place kind))) (shelf : IsErrOf answer Shelf → IfSome asked Missed) (write : IsErrOf answer Write → IfSome asked (λ file. HoldsProgram files file Cut)) (sink : IsErrOf answer Write → Risen) (file : List ℕ) (is : asked ≡ Some file) where
+  runs-at :
+      (a : Result Ending Cause)
+      → answer ≡ a
+      → (text : List ℕ) (program : Parts)
+      → TellsText files file text
+      → MeansProgram text program
+      → ¬ Missed file
+      → ¬ Risen
+      → (status_of a ≡ 0) ⊎ (status_of a ≡ 9)
+  runs-at (Result.Ok ending) e text program tells means kept still =
+      inl (ap status_in (subst (λ (r : Result Ending Cause). IfOk r (λ x. x ≡ Well)) e well))
+  runs-at (Result.Err Usage) e text program tells means kept still = (let none : asked ≡ None = usage e in absurd cc)
+  runs-at (Result.Err (Text found)) e text program tells means kept still =
+      let has = of_file asked file (λ f. FileHasFault files f found.place found.kind) is (subst (λ (r : Result Ending Cause). IfText r (λ place kind. IfSome asked (λ f. FileHasFault files f place kind))) e fault) in
+      absurd (meanings.no_faulty_program text program found.place found.kind means (faulty files file text found.place found.kind has tells))
+  runs-at (Result.Err Shelf) e text program tells means kept still = absurd (kept (of_file asked file Missed is (shelf e)))
+  runs-at (Result.Err Write) e text program tells means kept still = absurd (still (sink e))
+  runs-at (Result.Err Memory) e text program tells means kept still = inr refl
 
-pub refuses :
-    {T : Type 0} (answer : Result T Cause) (asked : Option (List ℕ)) (files : Option Files) (Missed : List ℕ → Type 0) (Then Cut : List ℕ → Type 0)
-    → (IsErrOf answer Usage → asked ≡ None)
-    → OnOk answer (IfSome asked (λ file. HoldsProgram files file Then))
-    → (IsErrOf answer Shelf → IfSome asked Missed)
-    → (IsErrOf answer Write → IfSome asked (λ file. HoldsProgram files file Cut))
-    → (file text : List ℕ)
-    → asked ≡ Some file
-    → TellsText files file text
-    → ((bytes : List ℕ) → ¬ IsProgram text bytes)
-    → ¬ Missed file
-    → (status_of answer ≡ 2) ⊎ (status_of answer ≡ 9)
-refuses (Result.Ok x) asked files Missed Then Cut usage done shelf write file text is tells none kept =
-    absurd (is_program files file text Then (of_file asked file (λ f. HoldsProgram files f Then) is done) tells none)
-refuses (Result.Err Usage) asked files Missed Then Cut usage done shelf write file text is tells none kept =
-    let empty : asked ≡ None = usage refl in
-    cc
-refuses (Result.Err Text) asked files Missed Then Cut usage done shelf write file text is tells none kept = inl refl
-refuses (Result.Err Shelf) asked files Missed Then Cut usage done shelf write file text is tells none kept =
-    absurd (kept (of_file asked file Missed is (shelf refl)))
-refuses (Result.Err Write) asked files Missed Then Cut usage done shelf write file text is tells none kept =
-    absurd (is_program files file text Cut (of_file asked file (λ f. HoldsProgram files f Cut) is (write refl)) tells none)
-refuses (Result.Err Memory) asked files Missed Then Cut usage done shelf write file text is tells none kept = inr refl
+  pub runs : (text : List ℕ) (program : Parts) → TellsText files file text → MeansProgram text program → ¬ Missed file → ¬ Risen → (status_of answer ≡ 0) ⊎ (status_of answer ≡ 9)
+  runs = runs-at answer refl
 
-pub absent :
-    {T : Type 0} (answer : Result T Cause) (asked : Option (List ℕ)) (files : Option Files) (Then Cut : List ℕ → Type 0)
-    → (IsErrOf answer Usage → asked ≡ None)
-    → OnOk answer (IfSome asked (λ file. HoldsProgram files file Then))
-    → (IsErrOf answer Text → IfSome asked (HoldsNoProgram files))
-    → (IsErrOf answer Write → IfSome asked (λ file. HoldsProgram files file Cut))
-    → (file : List ℕ)
-    → asked ≡ Some file
-    → TellsNone files file
-    → (status_of answer ≡ 6) ⊎ (status_of answer ≡ 9)
-absent (Result.Ok x) asked files Then Cut usage done fault write file is none =
-    let p = of_file asked file (λ f. HoldsProgram files f Then) is done in
-    absurd (not_absent files file p.text p.held none)
-absent (Result.Err Usage) asked files Then Cut usage done fault write file is none =
-    let empty : asked ≡ None = usage refl in
-    cc
-absent (Result.Err Text) asked files Then Cut usage done fault write file is none =
-    let p = of_file asked file (HoldsNoProgram files) is (fault refl) in
-    absurd (not_absent files file p.text p.held none)
-absent (Result.Err Shelf) asked files Then Cut usage done fault write file is none = inl refl
-absent (Result.Err Write) asked files Then Cut usage done fault write file is none =
-    let p = of_file asked file (λ f. HoldsProgram files f Cut) is (write refl) in
-    absurd (not_absent files file p.text p.held none)
-absent (Result.Err Memory) asked files Then Cut usage done fault write file is none = inr refl
+  held-program : (ending : Ending) → answer ≡ Result.Ok ending → HoldsProgram files file (Then ending)
+  held-program ending e =
+      of_file asked file (λ f. HoldsProgram files f (Then ending)) is
+      (subst (λ (r : Result Ending Cause). IfOk r (λ x. IfSome asked (λ f. HoldsProgram files f (Then x)))) e done)
+
+  held-cut : IsErrOf answer Write → HoldsProgram files file Cut
+  held-cut e = of_file asked file (λ f. HoldsProgram files f Cut) is (write e)
+
+  refuses-at :
+      (a : Result Ending Cause)
+      → answer ≡ a
+      → (text : List ℕ)
+      → TellsText files file text
+      → ((program : Parts) → ¬ MeansProgram text program)
+      → ¬ Missed file
+      → (status_of a ≡ 2) ⊎ (status_of a ≡ 9)
+  refuses-at (Result.Ok ending) e text tells none kept =
+      absurd (let h = held-program ending e in none h.program (meant files file text h.program h.means tells))
+  refuses-at (Result.Err Usage) e text tells none kept = (let empty : asked ≡ None = usage e in absurd cc)
+  refuses-at (Result.Err (Text found)) e text tells none kept = inl refl
+  refuses-at (Result.Err Shelf) e text tells none kept = absurd (kept (of_file asked file Missed is (shelf e)))
+  refuses-at (Result.Err Write) e text tells none kept =
+      absurd (let h = held-cut e in none h.program (meant files file text h.program h.means tells))
+  refuses-at (Result.Err Memory) e text tells none kept = inr refl
+
+  pub refuses : (text : List ℕ) → TellsText files file text → ((program : Parts) → ¬ MeansProgram text program) → ¬ Missed file → (status_of answer ≡ 2) ⊎ (status_of answer ≡ 9)
+  refuses = refuses-at answer refl
+
+  reports-at :
+      (a : Result Ending Cause)
+      → answer ≡ a
+      → (h0 h1 : Option (List ℕ)) (f0 f1 w0 w1 : ℕ)
+      → Reported h0 h1 (report_of a) f0 f1 w0 w1
+      → (text : List ℕ) (place : Place) (kind : TextFaultKind)
+      → TellsText files file text
+      → HasFault text place kind
+      → ¬ Missed file
+      → (status_of a ≡ 2) × Reported h0 h1 (fault_line place kind) f0 f1 w0 w1 ⊎ (status_of a ≡ 9)
+  reports-at (Result.Ok ending) e h0 h1 f0 f1 w0 w1 told text place kind tells has kept =
+      absurd (let h = held-program ending e in meanings.no_faulty_program text h.program place kind (meant files file text h.program h.means tells) has)
+  reports-at (Result.Err Usage) e h0 h1 f0 f1 w0 w1 told text place kind tells has kept = (let empty : asked ≡ None = usage e in absurd cc)
+  reports-at (Result.Err (Text found)) e h0 h1 f0 f1 w0 w1 told text place kind tells has kept =
+      let ours = of_file asked file (λ f. FileHasFault files f found.place found.kind) is (subst (λ (r : Result Ending Cause). IfText r (λ p k. IfSome asked (λ f. FileHasFault files f p k))) e fault) in
+      let same = meanings.one_fault text found.place place found.kind kind (faulty files file text found.place found.kind ours tells) has in
+      inl (refl, subst (λ (p : Place). Reported h0 h1 (fault_line p kind) f0 f1 w0 w1) same.0 (subst (λ (k : TextFaultKind). Reported h0 h1 (fault_line found.place k) f0 f1 w0 w1) same.1 told))
+  reports-at (Result.Err Shelf) e h0 h1 f0 f1 w0 w1 told text place kind tells has kept = absurd (kept (of_file asked file Missed is (shelf e)))
+  reports-at (Result.Err Write) e h0 h1 f0 f1 w0 w1 told text place kind tells has kept =
+      absurd (let h = held-cut e in meanings.no_faulty_program text h.program place kind (meant files file text h.program h.means tells) has)
+  reports-at (Result.Err Memory) e h0 h1 f0 f1 w0 w1 told text place kind tells has kept = inr refl
+
+  pub reports :
+      (h0 h1 : Option (List ℕ)) (f0 f1 w0 w1 : ℕ)
+      → Reported h0 h1 (report_of answer) f0 f1 w0 w1
+      → (text : List ℕ) (place : Place) (kind : TextFaultKind)
+      → TellsText files file text
+      → HasFault text place kind
+      → ¬ Missed file
+      → (status_of answer ≡ 2) × Reported h0 h1 (fault_line place kind) f0 f1 w0 w1 ⊎ (status_of answer ≡ 9)
+  reports = reports-at answer refl
+
+  absent-at : (a : Result Ending Cause) → answer ≡ a → TellsNone files file → (status_of a ≡ 6) ⊎ (status_of a ≡ 9)
+  absent-at (Result.Ok ending) e none = absurd (let h = held-program ending e in not_absent files file h.means.text h.means.held none)
+  absent-at (Result.Err Usage) e none = (let empty : asked ≡ None = usage e in absurd cc)
+  absent-at (Result.Err (Text found)) e none =
+      let has = of_file asked file (λ f. FileHasFault files f found.place found.kind) is (subst (λ (r : Result Ending Cause). IfText r (λ place kind. IfSome asked (λ f. FileHasFault files f place kind))) e fault) in
+      absurd (not_absent files file has.text has.held none)
+  absent-at (Result.Err Shelf) e none = inl refl
+  absent-at (Result.Err Write) e none = absurd (let h = held-cut e in not_absent files file h.means.text h.means.held none)
+  absent-at (Result.Err Memory) e none = inr refl
+
+  pub absent : TellsNone files file → (status_of answer ≡ 6) ⊎ (status_of answer ≡ 9)
+  absent = absent-at answer refl

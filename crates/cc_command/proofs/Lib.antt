@@ -1,14 +1,12 @@
-mod Pieces
-mod Rows
-mod Numerals
-mod Statements
-mod Programs
-mod Prints
-mod Texts
-mod Ends
-mod Decides
-pub mod Shapes
-pub mod Meant
-pub mod Sizes
+pub mod Decides
+pub mod Ends
+pub mod Files
 pub mod Finishes
+pub mod Forms
+pub mod Meanings
+pub mod Meant
+pub mod Prints
+pub mod Shapes
+pub mod Sizes
 pub mod Typing
+pub mod Written

@@ -1,44 +1,52 @@
 -- How many statements a text has at most.
-use Rattle.std.proofs.Common.{◌≡◌, ℕ, ◌+◌, ◌*◌, ◌≤◌, ◌<◌, List, [], ◌∷◌, ◌++◌, length, refl, ap, ◌∙◌, arith, length-append}
-use Rattle.std.specs.Fmt.{decimal}
+use Rattle.std.proofs.Common.{◌≡◌, ℕ, ◌+◌, ◌*◌, ◌≤◌, ◌<◌, List, [], ◌∷◌, ◌++◌, length, refl, ap, arith, length-append}
+use Rattle.std.proofs.lemmas.List.{length-map}
 use Rattle.std.specs.List.{flat_map}
-use Rattle.std.specs.Prelude.{codes}
-use Rattle.cc_command.proofs.Pieces.{begins_split}
-use Rattle.cc_command.specs.Form.{Begins, IsNext, IsProgram, closing, opening, statement_of}
+use Rattle.cc_base.specs.declared.names.Place.{Place}
+use Rattle.cc_lex.proofs.Fits.{is-some}
+use Rattle.cc_lex.specs.Spells.{Ending, Reads, whole, faulty, space, comment, token}
+use Rattle.cc_lex.specs.declared.piece.Piece.TheVariants as piece
+use Rattle.cc_lex.specs.declared.token.Token.{Token}
+use Rattle.cc_command.specs.Form.{IsForm, closing, opening, statement_of}
+use Rattle.cc_command.specs.Texts.{MeansProgram}
+use Rattle.cc_typed.specs.Parts.{Parts}
 
-next-length : (piece text rest : List ℕ) → IsNext piece text rest → length piece + length rest ≤ length text
-next-length piece text rest next =
-    let whole = ap length next.whole ∙ length-append next.blank (piece ++ rest) in
-    let behind = length-append piece rest in
-    omega (arith, whole, behind)
+-- a token has a byte at least
+tokens-length : {at : Place} {text : List ℕ} {tokens : List Token} {end : Place} {ending : Ending} → Reads at text tokens end ending → length tokens ≤ length text
+tokens-length whole = omega arith
+tokens-length (faulty kind bytes rest s) = omega arith
+tokens-length (space bytes rest s r) =
+    let others = tokens-length r in
+    omega (arith, others, length-append bytes rest)
+tokens-length (comment bytes rest s r) =
+    let others = tokens-length r in
+    omega (arith, others, length-append bytes rest)
+tokens-length (token what bytes rest s r) =
+    let others = tokens-length r in
+    let some = is-some (piece.Token what) bytes s.0 in
+    omega (arith, others, some, length-append bytes rest)
 
-begins-length : (pieces : List (List ℕ)) (text rest : List ℕ) → Begins pieces text rest → length rest ≤ length text
-begins-length [] text rest begins = (let same = ap length begins in omega (arith, same))
-begins-length (piece ∷ pieces) text rest begins =
-    let first = next-length piece text begins.0 begins.1 in
-    let others = begins-length pieces begins.0 rest begins.2 in
-    omega (arith, first, others)
+-- a statement has five tokens
+statements-length : (bytes : List ℕ) → length (flat_map statement_of bytes) ≡ 5 * length bytes
+statements-length [] = refl
+statements-length (byte ∷ bytes) =
+    let others = statements-length bytes in
+    let five : length (statement_of byte) ≡ 5 = refl in
+    let both : length (flat_map statement_of (byte ∷ bytes)) ≡ length (statement_of byte) + length (flat_map statement_of bytes) =
+    length-append (statement_of byte) (flat_map statement_of bytes) in
+    omega (arith, others, five, both)
 
--- a statement has two bytes at least
-statement-length : (byte : ℕ) (text rest : List ℕ) → Begins (statement_of byte) text rest → 2 + length rest ≤ length text
-statement-length byte text rest begins =
-    let first = next-length (codes "putchar") text begins.0 begins.1 in
-    let word : length (codes "putchar") ≡ 7 = refl in
-    let others = begins-length (codes "(" ∷ decimal byte ∷ codes ")" ∷ codes ";" ∷ []) begins.0 rest begins.2 in
-    omega (arith, first, word, others)
+form-length : (tokens : List Token) (bytes : List ℕ) → IsForm tokens bytes → 5 * length bytes ≤ length tokens
+form-length tokens bytes form =
+    let whole = ap length form.spelled in
+    let named = length-map tokens (λ t. t.what) in
+    let split = length-append (opening ++ flat_map statement_of bytes) closing in
+    let front = length-append opening (flat_map statement_of bytes) in
+    omega (arith, whole, named, split, front, statements-length bytes)
 
-statements-length : (bytes : List ℕ) (pieces : List (List ℕ)) (text rest : List ℕ) → Begins (flat_map statement_of bytes ++ pieces) text rest → 2 * length bytes ≤ length text
-statements-length [] pieces text rest begins = omega arith
-statements-length (byte ∷ bytes) pieces text rest begins =
-    let split = begins_split (statement_of byte) (flat_map statement_of bytes ++ pieces) text rest begins in
-    let first = statement-length byte text split.0 split.1 in
-    let others = statements-length bytes pieces split.0 rest split.2 in
-    omega (arith, first, others)
-
--- so its run has fewer turns than are allowed
-pub few-statements : (text bytes : List ℕ) → IsProgram text bytes → length bytes + 1 < 1000000
-few-statements text bytes program =
-    let split = begins_split opening (flat_map statement_of bytes ++ closing) text program.spaced.0 program.spaced.1 in
-    let opened = begins-length opening text split.0 split.1 in
-    let statements = statements-length bytes closing split.0 program.spaced.0 split.2 in
-    omega (arith, program.fits, opened, statements)
+-- so the run of its program has fewer turns than are allowed
+pub few-statements : (text : List ℕ) (program : Parts) → (means : MeansProgram text program) → length means.built.bytes + 1 < 1000000
+few-statements text program means =
+    let tokens = form-length means.list.tokens means.built.bytes means.built.form in
+    let short = tokens-length means.read.tokens.1 in
+    omega (arith, means.read.tokens.0, tokens, short)

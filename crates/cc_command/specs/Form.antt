@@ -1,44 +1,36 @@
--- The form of a program text: pieces in their order, with white space wherever it may stand.
-use Rattle.std.specs.Prelude.{ℕ, ◌≡◌, ◌≤◌, ◌==◌, ◌||◌, Bool, List, [], ◌∷◌, ◌++◌, length, codes, All}
-use Rattle.std.specs.List.{AllPass, flat_map}
-use Rattle.std.specs.Fmt.{decimal}
+-- The form of program that is built so far: `main` that puts bytes, one after the other.
+use Rattle.std.specs.Prelude.{ℕ, pos, ◌≡◌, ◌≤◌, List, [], ◌∷◌, ◌++◌, map, codes, All}
+use Rattle.std.specs.List.{flat_map}
+use Rattle.cc_lex.specs.declared.token.Mark.TheVariants as mark
+use Rattle.cc_lex.specs.declared.token.Size.TheVariants as size
+use Rattle.cc_lex.specs.declared.token.Token.{Token}
+use Rattle.cc_lex.specs.declared.token.What.{What}
+use Rattle.cc_lex.specs.declared.token.What.TheVariants as what
+use Rattle.cc_lex.specs.declared.token.Word.TheVariants as word
 
--- space, tab, newline, carriage return, vertical tab and form feed
-abbrev pub is_white : ℕ → Bool
-is_white byte = (byte == 32) || (byte == 9) || (byte == 10) || (byte == 13) || (byte == 11) || (byte == 12)
+-- what these tokens are, wherever they stand
+abbrev pub whats : List Token → List What
+whats tokens = map (λ token. token.what) tokens
 
--- the text is white space or nothing, then this piece, then the rest
-pub record IsNext (piece text rest : List ℕ) : Type 0 where
-  pub blank : List ℕ
-  pub white : AllPass is_white blank
-  pub whole : text ≡ blank ++ (piece ++ rest)
+-- `main() {`
+abbrev pub opening : List What
+opening = what.Name (codes "main") ∷ what.Mark mark.OpenParenthesis ∷ what.Mark mark.CloseParenthesis ∷ what.Mark mark.OpenBrace ∷ []
 
--- the text begins with these pieces in their order, each with white space or nothing before it; then comes the rest
-abbrev pub Begins : List (List ℕ) → List ℕ → List ℕ → Type 0
-Begins [] text rest = text ≡ rest
-Begins (piece ∷ pieces) text rest = (middle : List ℕ) × IsNext piece text middle × Begins pieces middle rest
+-- `putchar(byte);`
+abbrev pub statement_of : ℕ → List What
+statement_of byte =
+    what.Word word.Putchar ∷
+    what.Mark mark.OpenParenthesis ∷
+    what.Number (pos byte) size.Int ∷
+    what.Mark mark.CloseParenthesis ∷
+    what.Mark mark.Semicolon ∷
+    []
 
--- the text is these pieces in their order, with white space or nothing before, between and after them
-abbrev pub IsSpaced : List (List ℕ) → List ℕ → Type 0
-IsSpaced pieces text = (rest : List ℕ) × Begins pieces text rest × AllPass is_white rest
+-- `}`
+abbrev pub closing : List What
+closing = what.Mark mark.CloseBrace ∷ []
 
--- what stands before the statements, and what after them
-abbrev pub opening : List (List ℕ)
-opening = codes "main" ∷ codes "(" ∷ codes ")" ∷ codes "{" ∷ []
-
-abbrev pub closing : List (List ℕ)
-closing = codes "}" ∷ []
-
--- the statement that prints this byte: `putchar`, `(`, the byte in decimal, `)` and `;`
-abbrev pub statement_of : ℕ → List (List ℕ)
-statement_of byte = codes "putchar" ∷ codes "(" ∷ decimal byte ∷ codes ")" ∷ codes ";" ∷ []
-
--- the pieces of the program that prints these bytes
-abbrev pub pieces_of : List ℕ → List (List ℕ)
-pieces_of bytes = opening ++ flat_map statement_of bytes ++ closing
-
--- the text is a program that prints these bytes
-pub record IsProgram (text bytes : List ℕ) : Type 0 where
-  pub fits : length text ≤ 1_048_576
+-- the tokens are those of the program that puts these bytes
+pub record IsForm (tokens : List Token) (bytes : List ℕ) : Type 0 where
   pub in_range : All (λ byte. byte ≤ 255) bytes
-  pub spaced : IsSpaced (pieces_of bytes) text
+  pub spelled : whats tokens ≡ opening ++ flat_map statement_of bytes ++ closing

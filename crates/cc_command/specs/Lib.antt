@@ -1,7 +1,10 @@
-pub mod Form
-pub mod Reader
 pub mod Asked
-pub mod Printing
-pub mod Statuses
+pub mod Form
 pub mod Outcomes
+pub mod Printing
+pub mod ProcessFaults
 pub mod Program
+pub mod Reports
+pub mod Statuses
+pub mod TextFaults
+pub mod Texts

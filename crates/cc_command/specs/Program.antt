@@ -1,7 +1,6 @@
--- The program of a text of `putchar` statements.
-use Rattle.std.specs.Prelude.{◌≡◌, ℕ, pos, List, [], ◌∷◌, map}
+-- The program of a list of `putchar` statements.
+use Rattle.std.specs.Prelude.{ℕ, pos, List, [], ◌∷◌, map}
 use Rattle.cc_base.specs.Meaning.{Meaning}
-use Rattle.cc_command.specs.Form.{IsProgram}
 use Rattle.cc_typed.specs.Parts.{Parts}
 use Rattle.cc_typed.specs.Types.{Int}
 use Rattle.cc_source.specs.Programs.{meaning}
@@ -28,7 +27,3 @@ program_of bytes =
 -- what it means
 abbrev pub means : List ℕ → Meaning
 means bytes = meaning (program_of bytes)
-
--- the text is that of this program
-abbrev pub IsText : List ℕ → Parts → Type 0
-IsText text program = (bytes : List ℕ) × IsProgram text bytes × (program ≡ program_of bytes)

@@ -1,19 +1,26 @@
-//! The command: the words that it takes, the text that it reads, the run, and the status and the line that tell how it
-//! ended.
+//! The command: the words that it takes, what the text means that it reads, the run, and the status and the report that tell
+//! how it ended.
 //!
 //! [`command_one`] is all that the program does, over any shelf, input, output and clock: its contract is the theorem of
-//! the whole. Any text may be given to it. One of more than [`MOST_TEXT_BYTES`] bytes is refused, and the reader takes no
-//! stack that grows with the text.
+//! the whole. Any text may be given to it. One of more than [`MOST_TEXT_BYTES`] bytes is refused before it is read.
 #![tactic(auto)]
 
 mod cause;
 mod command;
+mod form;
+mod laws;
 mod program;
-mod reader;
+mod report;
 mod running;
+mod status;
+mod text;
+mod text_fault;
 mod words;
 
+pub use cause::{Cause, Ending};
 pub use command::{Finished, command_one};
-pub use program::read_program;
-pub use reader::{MOST_TEXT_BYTES, ReadError, one_program, read_bytes};
+pub use laws::{no_faulty_program, one_fault, one_program};
+pub use report::write_report;
+pub use text::{MOST_TEXT_BYTES, read_program};
+pub use text_fault::{ReadError, TextFault, TextFaultKind};
 pub use words::Words;

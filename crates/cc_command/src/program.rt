@@ -1,11 +1,9 @@
-ghost use Rattle.std.specs.Prelude.{◌≡◌, ◌≤◌, ◌∷◌, [], ℕ, List, All, pos, IfOk, IsErrOf};
+ghost use Rattle.std.specs.Prelude.{◌≡◌, ◌≤◌, ◌∷◌, [], All, pos, IfOk};
 ghost use Rattle.cc_base.specs.declared.numbers.NumberType.TheVariants as numeric;
 ghost use Rattle.cc_typed.specs.declared.tree.Expression.{Constant};
 ghost use Rattle.cc_typed.specs.Checked.{parts_of};
-ghost use Rattle.cc_command.specs.Form.{IsProgram};
-ghost use Rattle.cc_command.specs.Program.{IsText, program_of, puts};
+ghost use Rattle.cc_command.specs.Program.{program_of, puts};
 
-use crate::reader::{ReadError, read_bytes};
 use cc_base::Memory;
 use cc_source::{DataType, Early, Expression, Kind, NumberType, Program, ProgramParts, Statement};
 use sqlite_items::{Boxed, Items};
@@ -64,7 +62,7 @@ fn parts(alloc: Global, bytes: &[u8]) -> Result<ProgramParts, Memory>
 }
 
 /// The program that puts these bytes one after the other.
-fn program(alloc: Global, bytes: &[u8]) -> Result<Early, Memory>
+pub(crate) fn program(alloc: Global, bytes: &[u8]) -> Result<Early, Memory>
     requires { All (λ byte. byte ≤ 255) bytes.now }
     ensures { IfOk result (λ early. early ≡ program_of bytes.now) }
 {
@@ -72,18 +70,5 @@ fn program(alloc: Global, bytes: &[u8]) -> Result<Early, Memory>
     match Early::new(program) {
         Some(early) => Ok(early),
         None => unreachable!(),
-    }
-}
-
-/// The program of a text. `Unbuilt` where the text is no program, as where it has more than [`MOST_TEXT_BYTES`].
-///
-/// [`MOST_TEXT_BYTES`]: crate::MOST_TEXT_BYTES
-pub fn read_program(alloc: Global, text: &[u8]) -> Result<Early, ReadError>
-    ensures program { IfOk result (λ program. IsText text.now program) }
-    ensures unbuilt { IsErrOf result ReadError.Unbuilt → (bytes : List ℕ) → ¬ IsProgram text.now bytes }
-{
-    match read_bytes(alloc, text) {
-        Ok(bytes) => program(alloc, bytes.as_slice()).map_err(|_| ReadError::Memory),
-        Err(error) => Err(error),
     }
 }

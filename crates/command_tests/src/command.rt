@@ -107,7 +107,13 @@ fn programs_run(rt: HostRuntime) {
         piece: 1,
         ..sound()
     };
-    for case in &[sound(), empty, by_single_bytes] {
+    let hexadecimal = Case {
+        text: Some("main() { putchar(0x48); /* i */ }"),
+        printed: "H",
+        asked: &[Word::Print, Word::Done],
+        ..sound()
+    };
+    for case in &[sound(), empty, by_single_bytes, hexadecimal] {
         check(&rt, rt.alloc(), case);
     }
 }
@@ -133,29 +139,41 @@ fn refusals_are_reported(rt: HostRuntime) {
         words: &["run", "a", "b"],
         ..no_words
     };
-    let unbuilt = Case {
-        text: Some("main() { putchar(256); }"),
-        status: 2,
-        reported: "1:1: Unbuilt\n",
-        ..refused
-    };
-    let report_by_single_bytes = Case {
-        piece: 1,
-        ..unbuilt
-    };
     let no_file = Case {
         text: None,
         status: 6,
         reported: "shelf\n",
         ..refused
     };
+    for case in &[no_words, other_action, too_many, no_file] {
+        check(&rt, rt.alloc(), case);
+    }
+}
+
+/// Runs this text, which is refused with this report.
+fn refused(text: &'static str, reported: &'static str) -> Case {
+    Case {
+        text: Some(text),
+        status: 2,
+        printed: "",
+        reported,
+        asked: &[],
+        ..sound()
+    }
+}
+
+#[test]
+fn faults_of_texts_are_reported(rt: HostRuntime) {
+    let by_single_bytes = Case {
+        piece: 1,
+        ..refused("main() {\n  @", "2:3: NoToken\n")
+    };
     for case in &[
-        no_words,
-        other_action,
-        too_many,
-        unbuilt,
-        report_by_single_bytes,
-        no_file,
+        refused("", "1:1: Unbuilt\n"),
+        refused("main() { putchar(256); }", "1:1: Unbuilt\n"),
+        refused("main() { putchar(72) }", "1:22: Syntax\n"),
+        refused("main() { putchar(1x); } '", "1:18: BadNumber\n"),
+        by_single_bytes,
     ] {
         check(&rt, rt.alloc(), case);
     }
@@ -196,7 +214,6 @@ fn failures_are_told(rt: HostRuntime) {
     };
     let late_report = Case {
         err_fails: 3,
-        piece: 1,
         reported: "1:",
         ..unreported
     };

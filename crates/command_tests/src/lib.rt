@@ -1,4 +1,4 @@
-//! Tests of the command over objects in memory, of its reader, and of runs of typed programs that tests build.
+//! Tests of the command over objects in memory, of what texts mean, of reports, and of runs of typed programs that tests build.
 #![tactic(auto)]
 
 #[cfg(test)]
@@ -6,4 +6,6 @@ mod command;
 #[cfg(test)]
 mod drive;
 #[cfg(test)]
-mod reader;
+mod report;
+#[cfg(test)]
+mod text;

@@ -1,5 +1,6 @@
-use Rattle.std.proofs.Common.{◌∙◌, ap}
-use Rattle.cc_command.proofs.Finishes.{finishes, is-memory, is-write, on-over, same-meaning, stops, wants}
+use Rattle.std.proofs.Common.{None}
+use Rattle.cc_command.proofs.Ends.{if_both}
+use Rattle.cc_command.proofs.Finishes.{finishes, same-meaning, stops, wants, well}
 use Rattle.cc_kernel.proofs.Untimed.{asks-no-deadline}
 use Rattle.cc_source.specs.Early.{early_meaning}
 use Rattle.cc_source.specs.Lawful.{early_supported}
@@ -10,30 +11,36 @@ drive-ran-requires g c = record { no_deadline = asks-no-deadline (early_meaning 
 
 pub returns-clause-done : goal.returns-clause-done
 returns-clause-done g c =
-    rw c.answer.ensures
-    (on-over c.drive-ran.result.stop _
-    (λ over text bytes program e.
-    let same = ap early_meaning e ∙ same-meaning text bytes program in
+    if_both _ _ _ c.answer.result
+    (λ ending over so text means.
+    let same = same-meaning text c.args.program.now.value means in
     let run = rw (same, c.new.ensures) at c.drive-ran.ensures.run in
     let end = rw (same, c.new.ensures) at (c.drive-ran.ensures.over over) in
-    finishes text bytes program _ _ _ _ _ run c.drive-ran.ensures.untimed end))
+    finishes text c.args.program.now.value means _ _ _ _ _ run ending so end)
+    c.answer.ensures.over c.answer.ensures.ending
+
+pub returns-clause-well : goal.returns-clause-well
+returns-clause-well g c =
+    if_both _ _ _ c.answer.result
+    (λ ending over so text means.
+    let same = same-meaning text c.args.program.now.value means in
+    let run = rw (same, c.new.ensures) at c.drive-ran.ensures.run in
+    let end = rw (same, c.new.ensures) at (c.drive-ran.ensures.over over) in
+    well text c.args.program.now.value means _ _ _ None None run c.drive-ran.ensures.untimed ending so end.over)
+    c.answer.ensures.over c.answer.ensures.ending
 
 pub returns-clause-write : goal.returns-clause-write
-returns-clause-write g c =
-    rw c.answer.ensures
-    (λ is text bytes program e.
-    let same = ap early_meaning e ∙ same-meaning text bytes program in
-    let cut = is-write c.drive-ran.result.stop is in
+returns-clause-write g c = λ is text means.
+    let same = same-meaning text c.args.program.now.value means in
+    let cut = c.answer.ensures.write is in
     let run = rw (same, c.new.ensures) at c.drive-ran.ensures.run in
     let part = rw (same, c.new.ensures) at (c.drive-ran.ensures.write cut) in
     let incomplete = rw (same, c.new.ensures) at (c.drive-ran.ensures.incomplete cut) in
-    stops text bytes program _ _ _ _ _ run incomplete part)
+    stops text c.args.program.now.value means _ _ _ _ _ run incomplete part
 
 pub returns-clause-memory : goal.returns-clause-memory
-returns-clause-memory g c =
-    rw c.answer.ensures
-    (λ is text bytes program e.
-    let same = ap early_meaning e ∙ same-meaning text bytes program in
+returns-clause-memory g c = λ is text means.
+    let same = same-meaning text c.args.program.now.value means in
     let run = rw (same, c.new.ensures) at c.drive-ran.ensures.run in
-    let part = rw (same, c.new.ensures) at (c.drive-ran.ensures.memory (is-memory c.drive-ran.result.stop is)) in
-    wants text bytes program _ _ _ _ _ run part)
+    let part = rw (same, c.new.ensures) at (c.drive-ran.ensures.memory (c.answer.ensures.memory is)) in
+    wants text c.args.program.now.value means _ _ _ _ _ run part
