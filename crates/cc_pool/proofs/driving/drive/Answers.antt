@@ -1,7 +1,12 @@
-use Rattle.std.proofs.Common.{◌∙◌}
+use Rattle.std.proofs.Common.{◌∙◌, sym, subst}
+use Rattle.cc_kernel.specs.Untimed.{AsksNoDeadline}
 use Rattle.cc_pool.proofs.Begun.{empty-run, kernel-run}
 use Rattle.cc_pool.proofs.Unfinished.{print-incomplete}
 use Rattle.cc_pool.proofs.driving.drive.Goals as goal
+
+pub run_on-stop-requires-clause-no_deadline : goal.run_on-stop-requires-clause-no_deadline
+run_on-stop-requires-clause-no_deadline g c =
+    subst (λ code. AsksNoDeadline (g.B.Behave.means code)) (sym c.in-Ok.ensures.code) c.requires.no_deadline
 
 pub returns-in_default-clause-run : goal.returns-in_default-clause-run
 returns-in_default-clause-run g c =
