@@ -9,7 +9,7 @@ use crate::statements::Statements;
 use cc_expressions::{Cursor, NAME, Stop, identifier, key, sign};
 use cc_grammar::{Accept, Clauses, Entry, Expression, Identifier, Statement};
 use cc_lex::{Mark, Word};
-use sqlite_items::Items;
+use sqlite_items::{Boxed, Items};
 use std::alloc::Global;
 
 impl<
@@ -70,6 +70,15 @@ impl<
         }
     }
 
+    /// The same in a box.
+    fn boxed_clauses(&self, tokens: &mut Cursor<'_>) -> Result<Boxed<Clauses>, Stop>
+        requires assigns { Nests the.assign self.now.operands.simple.room (A.pre self.now.operands.assign) (A.post self.now.operands.assign) }
+        ensures { Reads (symbol self.now.operands.simple.room the.optional_clauses tokens.old) result tokens.new }
+    {
+        let clauses = self.optional_clauses(tokens)?;
+        Ok(Boxed::new(self.operands.simple.alloc, clauses)?)
+    }
+
     #[tactic(auto, using(crate::proofs::Expand::accept_block_is))]
     fn accept_block(&self, tokens: &mut Cursor<'_>) -> Result<Option<Items<Entry>>, Stop>
         requires assigns { Nests the.assign self.now.operands.simple.room (A.pre self.now.operands.assign) (A.post self.now.operands.assign) }
@@ -100,9 +109,9 @@ impl<
         requires statements { Nests the.statement self.now.operands.simple.room (S.pre self.now.statement) (S.post self.now.statement) }
         ensures { Reads (symbol self.now.operands.simple.room the.accept_rest tokens.old) result tokens.new }
     {
-        let clauses = self.optional_clauses(tokens)?;
+        let clauses = self.boxed_clauses(tokens)?;
         let block = self.accept_block(tokens)?;
-        Ok((clauses, block))
+        Ok((clauses.into_inner(), block))
     }
 
     #[tactic(auto, using(crate::proofs::Expand::accept_is))]
