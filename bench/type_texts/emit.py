@@ -1,6 +1,18 @@
-"""Writes the texts of crates/types_tests/faults.txt as plain trees, with the fault written beside each text: crates/types_tests. Run it in this folder, and then `rt tidy` there."""
+"""Writes the texts of crates/types_tests/faults.txt as plain trees with the fault that is written beside each, into
+crates/types_tests. Run it in this folder (table.py makes faults.txt), and then `rt fmt` in that crate."""
 import model, textwrap, re
 L = lambda xs: '(' + ' ∷ '.join(list(xs) + ['[]']) + ')' if xs else '[]'
+WORD = lambda w: 'what.Word word.' + w.capitalize() if w != 'suchthat' else 'what.Word word.Suchthat'
+MARK = {'(': 'OpenParenthesis', ')': 'CloseParenthesis', '{': 'OpenBrace', '}': 'CloseBrace', '[': 'OpenBracket', ']': 'CloseBracket', ';': 'Semicolon',
+        ',': 'Comma', '.': 'Dot', ':': 'Colon', '?': 'Question', '=': 'Assign', '+': 'Plus', '-': 'Minus', '*': 'Star', '/': 'Slash', '%': 'Percent',
+        '<': 'Less', '>': 'Greater', '!': 'Not', '<=': 'LessEqual', '>=': 'GreaterEqual', '==': 'Equal', '!=': 'NotEqual', '&&': 'And', '||': 'Or',
+        '++': 'Increment', '--': 'Decrement', '+=': 'PlusAssign', '-=': 'MinusAssign', '*=': 'StarAssign', '/=': 'SlashAssign', '%=': 'PercentAssign'}
+B = lambda s: L([str(ord(c)) for c in s])
+def token(t):
+    k, v, p = t
+    w = {'word': lambda: WORD(v), 'name': lambda: 'what.Name ' + B(v), 'number': lambda: 'what.Number (pos %d) size.%s' % (v[0], v[1].capitalize()),
+         'char': lambda: 'what.Character %d' % v, 'string': lambda: 'what.String ' + B(v), 'mark': lambda: 'what.Mark mark.' + MARK[v]}[k]()
+    return 'record { place = at %d %d; what = %s }' % (p + (w,))
 class Emit:
     def __init__(self): self.names = {'main': 0}; self.formats = {}
     def n(self, x): return self.names.setdefault(x, len(self.names))
@@ -28,7 +40,7 @@ class Emit:
         if t == 'paren': return P % ('Parenthesized %s %s' % (A(e[1]), E(e[2])))
         if t == 'neg': return P % ('%s %s %s' % ({'-': 'Negate', '+': 'Plus'}[e[3]], A(e[1]), E(e[2])))
         if t == 'not': return P % ('Not %s %s' % (A(e[1]), E(e[2])))
-        W = {'++': 'word.Up', '--': 'word.Down'}
+        W = {'++': 'step_word.Up', '--': 'step_word.Down'}
         if t == 'before': return P % ('StepBefore %s %s %s' % (A(e[1]), W[e[3]], E(e[2])))
         if t == 'after': return P % ('StepAfter %s %s' % (E(e[1]), W[e[2]]))
         OPS = {'+': 'Add', '-': 'Subtract', '*': 'Multiply', '/': 'Divide', '%': 'Remainder'}
@@ -49,8 +61,9 @@ class Emit:
     def s(self, s):
         t = s[0]; A = self.at; E = self.e; S = self.s; P = '(statement.%s)'
         if t == 'local':
+            of, name = self.t(s[1]), self.x(s[2])
             f = 'form.Plain' if s[3] is None else 'form.Array ' + self.length(s[3][1]) if s[3][0] == 'array' else 'form.Value ' + E(s[3][1])
-            return P % ('Declare (record { of = %s; name = %s; form = %s })' % (self.t(s[1]), self.x(s[2]), f))
+            return P % ('Declare (record { of = %s; name = %s; form = %s })' % (of, name, f))
         if t == 'empty': return 'statement.Empty'
         if t == 'block': return P % ('Block ' + L([S(a) for a in s[1]]))
         if t == 'expr': return P % ('Evaluate ' + E(s[1]))
@@ -82,11 +95,13 @@ class Emit:
             val = lambda v: '(record { negative = %s; length = %s })' % ('true' if v[0] else 'false', self.length(v[1]))
             return 'item.Enumeration %s %s' % (self.opt(self.x, i[1]), L(['record { name = %s; value = %s }' % (self.x(n), self.opt(val, v)) for n, v in i[2]]))
         if t == 'spec':
+            name, qs = self.x(i[1]), L([self.t(q) for q in i[2]])
             ts = L(['record { result = %s; name = %s; parameters = %s }' % (self.opt(self.t, r), self.x(n), L([self.t(q) for q in ps])) for r, n, ps in i[3]])
-            return 'item.Specification %s %s %s' % (self.x(i[1]), L([self.t(q) for q in i[2]]), ts)
+            return 'item.Specification %s %s %s' % (name, qs, ts)
         if t == 'body': return 'item.Body %s %s %s' % (self.x(i[1]), L([self.x(m) for m in i[2]]), L([self.s(x) for x in i[3]]))
+        result, name = self.t(i[1]), self.x(i[2])
         ps = L(['record { of = %s; name = %s }' % (self.t(a), self.x(n)) for a, n in i[3]])
-        return 'item.Function %s %s %s %s' % (self.t(i[1]), self.x(i[2]), ps, L([self.s(x) for x in i[4]]))
+        return 'item.Function %s %s %s %s' % (result, name, ps, L([self.s(x) for x in i[4]]))
     def plain(self, items):
         its = L([self.item(i) for i in items])
         fs = L([L([str(ord(c)) for c in f]) for f in self.formats])
@@ -97,6 +112,19 @@ UNFOLD = '''program sorted first faults answer map checked both asked each each_
     is_place depth_of type_of type_after element_within is_int is_format conversions E.shape-the_row-Phrase-1 E.hidden-the_row-Phrase-0 E.hidden-the_row-Phrase-1
     E.hidden-the_row-Step-2 E.hidden-the_row-Operation-3 E.hidden-the_row-Compared-4 S.hidden-the_row-Statement-0 S.shape-the_row-Statement-1
     S.hidden-the_row-Statement-1 S.hidden-the_row-Alternative-2 hidden'''
+def used(text):
+    """The file without imports that nothing in it uses."""
+    body = '\n'.join(l for l in text.split('\n') if not l.startswith(('use ', '-- '))); out = []
+    for l in text.split('\n'):
+        m = re.match(r'use (\S+) as (\w+)$', l); n = re.match(r'use (\S+)\.\{(.*)\}$', l)
+        if m and m.group(2) + '.' not in body: continue
+        if n:
+            words = [w for w in n.group(2).split(', ') if re.search(r'(?<![\w.])' + re.escape(w.strip('◌')) + r'(?![\w.])', body)]
+            if not words: continue
+            l = 'use %s.{%s}' % (n.group(1), ', '.join(words))
+        out.append(l)
+    return '\n'.join(out)
+
 groups = []; title = None
 for line in open('../../crates/types_tests/faults.txt'):
     line = line.rstrip('\n')
@@ -121,8 +149,8 @@ for k, (title, rows) in enumerate(files):
         body = '(%s, %s)' % (plain, w)
         out += textwrap.wrap(body, width=150, initial_indent='    ', subsequent_indent='    ', break_long_words=False, break_on_hyphens=False); out.append('')
     out.append('abbrev pub rows : List Row\nrows = ' + ' ∷ '.join('text%d' % j for j in range(len(rows))) + ' ∷ []')
-    open('../../crates/types_tests/specs/%s.antt' % name, 'w').write('\n'.join(out) + '\n')
-open('../../crates/types_tests/specs/Lib.antt', 'w').write('pub mod Seen\n' + ''.join('pub mod %s\n' % m for m in mods))
+    open('../../crates/types_tests/specs/%s.antt' % name, 'w').write(used('\n'.join(out) + '\n'))
+open('../../crates/types_tests/specs/Lib.antt', 'w').write('pub mod Seen\npub mod Trees\npub mod Parsed\n' + ''.join('pub mod %s\n' % m for m in mods))
 # the proofs: each text is computed
 import os, shutil, collections
 P = '../../crates/types_tests/proofs/'
@@ -132,10 +160,11 @@ for m, (title, rows) in zip(mods, files):
     out = ['-- ' + title + ': each text computed.', USES.replace('TEXTS', m), 'pub hold : Hold rows', 'unfolding ' + UNFOLD,
            'hold = ' + '(refl, ' * len(rows) + 'tt' + ')' * len(rows)]
     open(P + m.replace('Texts', 'Held') + '.antt', 'w').write('\n'.join(out) + '\n')
-open(P + 'Lib.antt', 'w').write(''.join('pub mod %s\n' % m.replace('Texts', 'Held') for m in mods))
+open(P + 'Lib.antt', 'w').write('pub mod Parsed\n' + ''.join('pub mod %s\n' % m.replace('Texts', 'Held') for m in mods))
 groups = collections.OrderedDict()
 for k in range(0, len(mods), 6): groups['texts_%d' % (k // 6 + 1)] = list(range(k, min(k + 6, len(mods))))
 lib = ['//! The first faults of texts, written by hand, which the definition computes.', '#![tactic(auto)]', '', 'ghost use Rattle.types_tests.specs.Seen.{Hold};']
+lib += ['ghost use Rattle.types_tests.specs.Parsed.{rows as parsed_rows};', 'ghost use Rattle.types_tests.specs.Trees.{HaveTrees};']
 lib += ['ghost use Rattle.types_tests.specs.%s.{rows as rows_%02d};' % (m, k) for k, m in enumerate(mods)] + ['']
 for g, ks in groups.items():
     lib += ['/// ' + '; '.join(dict.fromkeys(files[k][0] for k in ks)), 'fn %s()' % g]
@@ -146,6 +175,25 @@ for g, ks in groups.items():
     else:
         for k in ks: a += ['pub returns-clause-text%02d : goal.returns-clause-text%02d' % (k, k), 'returns-clause-text%02d c = hold_%02d' % (k, k), '']
     open(P + g + '/Answers.antt', 'w').write('\n'.join(a))
-lib += ['#[test]', 'fn first_faults() {'] + ['    %s();' % g for g in groups] + ['}']
+lib += ['/// Texts as tokens, with their plain trees.', 'fn plain_trees()', '    ensures trees { HaveTrees parsed_rows }', '{}', '']
+os.makedirs(P + 'plain_trees'); open(P + 'plain_trees/Answers.antt', 'w').write('''use Rattle.types_tests.proofs.Parsed.{hold}
+use Rattle.types_tests.proofs.plain_trees.Goals as goal
+
+pub returns : goal.returns
+returns c = record { trees = hold }
+''')
+open(P + 'Parsed.antt', 'w').write(open('parsed_head.txt').read() + 'hold = ' + '(refl, ' * len(open('parsed.txt').readlines()) + 'tt' + ')' * len(open('parsed.txt').readlines()) + '\n')
+lib += ['#[test]', 'fn first_faults() {'] + ['    %s();' % g for g in groups] + ['}', '', '#[test]', 'fn trees_of_texts() {', '    plain_trees();', '}']
 open('../../crates/types_tests/src/lib.rt', 'w').write('\n'.join(lib) + '\n')
 print(len(files), 'files', sum(len(r) for _, r in files), 'texts')
+# texts as tokens, and their plain trees
+rows = []; out = ['-- Texts as tokens, and the plain tree of each.', open('tokens_head.txt').read()]
+for k, line in enumerate(open('parsed.txt')):
+    text = line.rstrip('\n'); toks = model.lex(text)
+    plain = Emit().plain(model.Parser(toks).text())
+    out += ['-- ' + text, 'abbrev text%d : Row\ntext%d =' % (k, k)]
+    body = '(record { tokens = %s; end = at %d %d }, Some (%s))' % ((L([token(t) for t in toks[:-1]]),) + toks[-1][2] + (plain,))
+    out += textwrap.wrap(body, width=150, initial_indent='    ', subsequent_indent='    ', break_long_words=False, break_on_hyphens=False) + ['']
+    rows.append('text%d' % k)
+out.append('abbrev pub rows : List Row\nrows = ' + ' ∷ '.join(rows) + ' ∷ []')
+open('../../crates/types_tests/specs/Parsed.antt', 'w').write(used('\n'.join(out) + '\n'))

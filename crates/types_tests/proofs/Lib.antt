@@ -1,3 +1,4 @@
+pub mod Parsed
 pub mod Held00
 pub mod Held01
 pub mod Held02

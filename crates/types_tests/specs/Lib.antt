@@ -1,4 +1,6 @@
 pub mod Seen
+pub mod Trees
+pub mod Parsed
 pub mod Texts00
 pub mod Texts01
 pub mod Texts02

@@ -1,5 +1,5 @@
 -- Texts as plain trees, and the first fault of each.
-use Rattle.std.specs.Prelude.{◌≡◌, ℕ, List, [], ◌∷◌, Option, Some, None}
+use Rattle.std.specs.Prelude.{◌≡◌, ℕ, List, [], ◌∷◌, Option}
 use Rattle.cc_base.specs.declared.names.Place.{Place}
 use Rattle.cc_faults.specs.Judged.{faults}
 use Rattle.cc_faults.specs.Programs.{program}

@@ -1,6 +1,5 @@
 -- the worked texts
-use Rattle.std.specs.Prelude.{ℕ, pos, true, false, List, [], ◌∷◌, Option, Some, None}
-use Rattle.cc_base.specs.declared.names.Place.{Place}
+use Rattle.std.specs.Prelude.{pos, List, [], ◌∷◌, Some, None}
 use Rattle.cc_base.specs.declared.numbers.Comparison.TheVariants as comparison
 use Rattle.cc_base.specs.declared.numbers.NumberType.TheVariants as numeric
 use Rattle.cc_base.specs.declared.numbers.Operator.TheVariants as operator
@@ -11,10 +10,9 @@ use Rattle.cc_faults.specs.declared.plain.Item.TheVariants as item
 use Rattle.cc_faults.specs.declared.plain.Length.TheVariants as some_length
 use Rattle.cc_faults.specs.declared.plain.LocalForm.TheVariants as form
 use Rattle.cc_faults.specs.declared.plain.Phrase.TheVariants as phrase
-use Rattle.cc_faults.specs.declared.plain.Plain.{Plain}
 use Rattle.cc_faults.specs.declared.plain.Statement.TheVariants as statement
 use Rattle.cc_faults.specs.declared.plain.Step.TheVariants as step
-use Rattle.cc_faults.specs.declared.plain.StepWord.TheVariants as word
+use Rattle.cc_faults.specs.declared.plain.StepWord.TheVariants as step_word
 use Rattle.cc_faults.specs.declared.plain.TypeName.TheVariants as type_name
 use Rattle.types_tests.specs.Seen.{Row, at, fault_at, x}
 
@@ -92,16 +90,16 @@ text6 = (
   record {
     names = 5;
     formats = [];
-    items = (item.Specification (x 1 14 2) [] (record {
+    items = (item.Specification (x 1 14 1) [] (record {
       result = (Some (type_name.Number numeric.Int));
       name = (x 1
-          30 1);
+          30 2);
       parameters = ((type_name.Number numeric.Int) ∷ []);
-    } ∷ []) ∷ item.Body (x 1 56 2) [] ((statement.Accept (record {
+    } ∷ []) ∷ item.Body (x 1 56 1) [] ((statement.Accept (record {
       head = record {
         place =
             (at 1 62);
-        name = (x 1 69 1);
+        name = (x 1 69 2);
         names = ((x 1 71 3) ∷ []);
         clauses = [];
       };
@@ -109,12 +107,12 @@ text6 = (
           84 3)))) ∷ (statement.TransactionReturn (at 1 88) (Some (phrase.Number (at 1 96) (pos 66) numeric.Int))) ∷ []);
     })) ∷ []) ∷ item.Function
         (type_name.Number numeric.Int) (x 1 104 0) [] ((statement.Declare (record {
-          of = (type_name.Process (x 1 121 2));
+          of = (type_name.Process (x 1 121 1));
           name = (x 1 123 4);
           form =
               form.Plain;
-        })) ∷ (statement.Evaluate (phrase.Assign (phrase.Name (x 1 126 4)) (phrase.Create (at 1 130) (x 1 137 2) []))) ∷ (statement.Evaluate
-        (phrase.PutChar (at 1 142) (phrase.Chain (phrase.Name (x 1 150 4)) (step.Call (x 1 152 1) ((phrase.Number (at 1 154) (pos 65) numeric.Int) ∷ []) ∷
+        })) ∷ (statement.Evaluate (phrase.Assign (phrase.Name (x 1 126 4)) (phrase.Create (at 1 130) (x 1 137 1) []))) ∷ (statement.Evaluate
+        (phrase.PutChar (at 1 142) (phrase.Chain (phrase.Name (x 1 150 4)) (step.Call (x 1 152 2) ((phrase.Number (at 1 154) (pos 65) numeric.Int) ∷ []) ∷
         [])))) ∷ []) ∷ []);
   },
   None,
@@ -126,17 +124,17 @@ text7 = (
   record {
     names = 13;
     formats = [];
-    items = (item.Specification (x 1 14 3) ((type_name.Number numeric.Int) ∷ []) (record {
+    items = (item.Specification (x 1 14 1) ((type_name.Number numeric.Int) ∷ []) (record {
       result = (Some
           (type_name.Void (at 1 38)));
-      name = (x 1 43 1);
+      name = (x 1 43 2);
       parameters = ((type_name.Number numeric.Int) ∷ []);
     } ∷ record {
       result = (Some (type_name.Number
           numeric.Int));
-      name = (x 1 65 2);
+      name = (x 1 65 3);
       parameters = [];
-    } ∷ []) ∷ item.Body (x 2 14 3) ((x 2 21 4) ∷ []) ((statement.Declare (record {
+    } ∷ []) ∷ item.Body (x 2 14 1) ((x 2 21 4) ∷ []) ((statement.Declare (record {
       of =
           (type_name.Number numeric.Int);
       name = (x 3 7 5);
@@ -158,7 +156,7 @@ text7 = (
           choice = (choice.Accept (record {
             head = record {
               place = (at 5 16);
-              name = (x 5 23 1);
+              name = (x 5 23 2);
               names = ((x 5 27 9) ∷ []);
               clauses = [];
             };
@@ -173,13 +171,13 @@ text7 = (
                 operator = operator.Remainder;
                 operand =
                     (phrase.Name (x 6 27 4));
-              } ∷ [])))) ∷ (statement.Evaluate (phrase.StepAfter (phrase.Name (x 6 32 6)) word.Up)) ∷ []);
+              } ∷ [])))) ∷ (statement.Evaluate (phrase.StepAfter (phrase.Name (x 6 32 6)) step_word.Up)) ∷ []);
         } ∷ record {
-          guard = (Some
-              (phrase.Compare (phrase.Name (x 7 7 6)) (record { comparison = comparison.Greater; operand = (phrase.Number (at 7 11) (pos 0) numeric.Int) } ∷
-              [])));
+          guard =
+              (Some (phrase.Compare (phrase.Name (x 7 7 6)) (record { comparison = comparison.Greater; operand = (phrase.Number (at 7 11) (pos 0) numeric.Int) }
+              ∷ [])));
           choice = (choice.Accept (record {
-            head = record { place = (at 7 15); name = (x 7 22 2); names = []; clauses = [] };
+            head = record { place = (at 7 15); name = (x 7 22 3); names = []; clauses = [] };
             block =
                 ((statement.TransactionReturn (at 7 30) (Some (phrase.Chain (phrase.Name (x 7 38 5)) (step.Index (phrase.Name (x 7 42 7)) ∷ [])))) ∷ []);
           }));
@@ -188,32 +186,40 @@ text7 = (
                 operator =
                     operator.Remainder;
                 operand = (phrase.Name (x 8 27 4));
-              } ∷ [])))) ∷ (statement.Evaluate (phrase.StepAfter (phrase.Name (x 8 32 6)) word.Down)) ∷
-              []);
-        } ∷ record { guard = None; choice = choice.Terminate; entries = [] } ∷ []))) ∷ []) ∷ item.Specification (x 12 14 10) ((type_name.Process (x 12
-        31 3)) ∷ []) [] ∷ item.Body (x 13 14 10) ((x 13 23 11) ∷ []) ((statement.Declare (record {
-          of = (type_name.Number numeric.Int);
-          name = (x 13 32
-              9);
+              } ∷ [])))) ∷ (statement.Evaluate (phrase.StepAfter (phrase.Name (x 8 32 6))
+              step_word.Down)) ∷ []);
+        } ∷ record { guard = None; choice = choice.Terminate; entries = [] } ∷ []))) ∷ []) ∷ item.Specification (x 12 14 10)
+        ((type_name.Process (x 12 31 1)) ∷ []) [] ∷ item.Body (x 13 14 10) ((x 13 23 11) ∷ []) ((statement.Declare (record {
+          of = (type_name.Number
+              numeric.Int);
+          name = (x 13 32 9);
           form = form.Plain;
-        })) ∷ (statement.DoWhile (statement.Block ((statement.Evaluate (phrase.Assign (phrase.Name (x 13 40 9)) (phrase.GetChar (at
-        13 44)))) ∷ (statement.Evaluate (phrase.Chain (phrase.Name (x 13 55 11)) (step.Call (x 13 57 1) ((phrase.Name (x 13 61 9)) ∷ []) ∷ []))) ∷ []))
-        (phrase.Compare (phrase.Name (x 13 74 9)) (record {
+        })) ∷ (statement.DoWhile (statement.Block ((statement.Evaluate (phrase.Assign (phrase.Name (x
+        13 40 9)) (phrase.GetChar (at 13 44)))) ∷ (statement.Evaluate (phrase.Chain (phrase.Name (x 13 55 11)) (step.Call (x 13 57 2) ((phrase.Name (x 13
+        61 9)) ∷ []) ∷ []))) ∷ [])) (phrase.Compare (phrase.Name (x 13 74 9)) (record {
           comparison = comparison.Different;
-          operand = (phrase.Negate (at 13 79) (phrase.Number (at 13
-              80) (pos 1) numeric.Int));
-        } ∷ []))) ∷ []) ∷ item.Specification (x 14 14 12) ((type_name.Process (x 14 31 3)) ∷ []) [] ∷ item.Body (x 15 14 12) ((x
-        15 23 11) ∷ []) ((statement.Declare (record { of = (type_name.Number numeric.Int); name = (x 15 32 9); form = form.Plain })) ∷ (statement.While
-        (phrase.Compare (phrase.Parenthesized (at 15 42) (phrase.Assign (phrase.Name (x 15 43 9)) (phrase.Chain (phrase.Name (x 15 47 11)) (step.Call (x
-        15 49 2) [] ∷ [])))) (record {
+          operand = (phrase.Negate (at 13
+              79) (phrase.Number (at 13 80) (pos 1) numeric.Int));
+        } ∷ []))) ∷ []) ∷ item.Specification (x 14 14 12) ((type_name.Process (x 14 31 1)) ∷ []) [] ∷
+        item.Body (x 15 14 12) ((x 15 23 11) ∷ []) ((statement.Declare (record {
+          of = (type_name.Number numeric.Int);
+          name = (x 15 32 9);
+          form =
+              form.Plain;
+        })) ∷ (statement.While (phrase.Compare (phrase.Parenthesized (at 15 42) (phrase.Assign (phrase.Name (x 15 43 9)) (phrase.Chain
+        (phrase.Name (x 15 47 11)) (step.Call (x 15 49 3) [] ∷ [])))) (record {
           comparison = comparison.Different;
-          operand = (phrase.Negate (at 15 59) (phrase.Number (at 15 60) (pos 1)
-              numeric.Int));
-        } ∷ [])) (statement.Evaluate (phrase.PutChar (at 15 63) (phrase.Name (x 15 71 9))))) ∷ []) ∷ item.Function (type_name.Number
-        numeric.Int) (x 16 1 0) [] ((statement.Declare (record { of = (type_name.Process (x 16 18 3)); name = (x 16 25 11); form = form.Plain })) ∷
-        (statement.Evaluate (phrase.Assign (phrase.Name (x 16 28 11)) (phrase.Create (at 16 32) (x 16 39 3) ((phrase.Number (at 16 46) (pos 4)
-        numeric.Int) ∷ [])))) ∷ (statement.Evaluate (phrase.Create (at 16 50) (x 16 57 10) ((phrase.Name (x 16 66 11)) ∷ []))) ∷ (statement.Evaluate
-        (phrase.Create (at 16 70) (x 16 77 12) ((phrase.Name (x 16 86 11)) ∷ []))) ∷ []) ∷ []);
+          operand = (phrase.Negate (at 15 59)
+              (phrase.Number (at 15 60) (pos 1) numeric.Int));
+        } ∷ [])) (statement.Evaluate (phrase.PutChar (at 15 63) (phrase.Name (x 15 71 9))))) ∷ []) ∷
+        item.Function (type_name.Number numeric.Int) (x 16 1 0) [] ((statement.Declare (record {
+          of = (type_name.Process (x 16 18 1));
+          name = (x 16 25
+              11);
+          form = form.Plain;
+        })) ∷ (statement.Evaluate (phrase.Assign (phrase.Name (x 16 28 11)) (phrase.Create (at 16 32) (x 16 39 1) ((phrase.Number
+        (at 16 46) (pos 4) numeric.Int) ∷ [])))) ∷ (statement.Evaluate (phrase.Create (at 16 50) (x 16 57 10) ((phrase.Name (x 16 66 11)) ∷ []))) ∷
+        (statement.Evaluate (phrase.Create (at 16 70) (x 16 77 12) ((phrase.Name (x 16 86 11)) ∷ []))) ∷ []) ∷ []);
   },
   None,
 )
@@ -224,45 +230,41 @@ text8 = (
   record {
     names = 8;
     formats = [];
-    items = (item.Specification (x 1 14 3) [] (record {
+    items = (item.Specification (x 1 14 1) [] (record {
       result = (Some (type_name.Void (at 1 31)));
       name = (x 1 36
-          1);
+          2);
       parameters = [];
     } ∷ record {
       result = None;
-      name = (x 1 54 2);
+      name = (x 1 54 3);
       parameters = ((type_name.Number numeric.Int) ∷ (type_name.Number numeric.Char)
           ∷ []);
-    } ∷ []) ∷ item.Body (x 2 14 3) [] ((statement.Declare (record {
+    } ∷ []) ∷ item.Body (x 2 14 1) [] ((statement.Declare (record {
       of = (type_name.Number numeric.Int);
       name = (x 2 29 4);
       form = form.Plain;
-    })) ∷ (statement.Accept (record { head = record { place = (at 2 32); name = (x 2 39 1); names = []; clauses = [] }; block = [] })) ∷
+    })) ∷ (statement.Accept (record { head = record { place = (at 2 32); name = (x 2 39 2); names = []; clauses = [] }; block = [] })) ∷
         (statement.For (Some (phrase.Assign (phrase.Name (x 3 8 4)) (phrase.Number (at 3 12) (pos 0) numeric.Int))) (Some (phrase.Compare (phrase.Name (x
         3 15 4)) (record { comparison = comparison.Less; operand = (phrase.Number (at 3 19) (pos 3) numeric.Int) } ∷ []))) (Some (phrase.StepAfter
-        (phrase.Name (x 3 22 4)) word.Up)) (statement.Accept (record {
+        (phrase.Name (x 3 22 4)) step_word.Up)) (statement.Accept (record {
           head = record {
             place = (at 3 27);
-            name = (x 3 34 2);
-            names = ((x 3 38 5) ∷ (x 3 41
-                6) ∷ []);
+            name = (x 3 34 3);
+            names = ((x 3 38 5) ∷ (x
+                3 41 6) ∷ []);
             clauses = (record { word = clause_word.By; expression = (phrase.Name (x 3 48 5)) } ∷ []);
           };
-          block = ((statement.Evaluate (phrase.PutChar
-              (at 3 53) (phrase.Name (x 3 61 6)))) ∷ []);
-        }))) ∷ []) ∷ item.Function (type_name.Number numeric.Int) (x 4 1 0) [] ((statement.Declare (record {
-          of
-              = (type_name.Process (x 4 18 3));
-          name = (x 4 25 7);
-          form = form.Plain;
-        })) ∷ (statement.Evaluate (phrase.Assign (phrase.Name (x 4 28 7))
-        (phrase.Create (at 4 32) (x 4 39 3) []))) ∷ (statement.Evaluate (phrase.Chain (phrase.Name (x 5 3 7)) (step.Call (x 5 5 2) ((phrase.Number (at 5
-        9) (pos 5) numeric.Int) ∷ (phrase.Number (at 5 12) (pos 97) numeric.Int) ∷ []) ∷ []))) ∷ (statement.Evaluate (phrase.Chain (phrase.Name (x 5 18
-        7)) (step.Call (x 5 20 2) ((phrase.Number (at 5 24) (pos 3) numeric.Int) ∷ (phrase.Number (at 5 27) (pos 98) numeric.Int) ∷ []) ∷ []))) ∷
-        (statement.Evaluate (phrase.Chain (phrase.Name (x 5 33 7)) (step.Call (x 5 35 2) ((phrase.Number (at 5 39) (pos 3) numeric.Int) ∷ (phrase.Number
-        (at 5 42) (pos 99) numeric.Int) ∷ []) ∷ []))) ∷ (statement.Evaluate (phrase.Chain (phrase.Name (x 5 48 7)) (step.Call (x 5 50 1) [] ∷ []))) ∷ [])
-        ∷ []);
+          block = ((statement.Evaluate
+              (phrase.PutChar (at 3 53) (phrase.Name (x 3 61 6)))) ∷ []);
+        }))) ∷ []) ∷ item.Function (type_name.Number numeric.Int) (x 4 1 0) []
+        ((statement.Declare (record { of = (type_name.Process (x 4 18 1)); name = (x 4 25 7); form = form.Plain })) ∷ (statement.Evaluate (phrase.Assign
+        (phrase.Name (x 4 28 7)) (phrase.Create (at 4 32) (x 4 39 1) []))) ∷ (statement.Evaluate (phrase.Chain (phrase.Name (x 5 3 7)) (step.Call (x 5 5
+        3) ((phrase.Number (at 5 9) (pos 5) numeric.Int) ∷ (phrase.Number (at 5 12) (pos 97) numeric.Int) ∷ []) ∷ []))) ∷ (statement.Evaluate
+        (phrase.Chain (phrase.Name (x 5 18 7)) (step.Call (x 5 20 3) ((phrase.Number (at 5 24) (pos 3) numeric.Int) ∷ (phrase.Number (at 5 27) (pos 98)
+        numeric.Int) ∷ []) ∷ []))) ∷ (statement.Evaluate (phrase.Chain (phrase.Name (x 5 33 7)) (step.Call (x 5 35 3) ((phrase.Number (at 5 39) (pos 3)
+        numeric.Int) ∷ (phrase.Number (at 5 42) (pos 99) numeric.Int) ∷ []) ∷ []))) ∷ (statement.Evaluate (phrase.Chain (phrase.Name (x 5 48 7))
+        (step.Call (x 5 50 2) [] ∷ []))) ∷ []) ∷ []);
   },
   None,
 )
@@ -273,18 +275,18 @@ text9 = (
   record {
     names = 5;
     formats = [];
-    items = (item.Specification (x 1 14 2) [] (record {
+    items = (item.Specification (x 1 14 1) [] (record {
       result = None;
-      name = (x 1 32 1);
+      name = (x 1 32 2);
       parameters =
           ((type_name.Number numeric.Int) ∷ []);
-    } ∷ []) ∷ item.Body (x 1 58 2) [] ((statement.Select (at 1 64) (record {
+    } ∷ []) ∷ item.Body (x 1 58 1) [] ((statement.Select (at 1 64) (record {
       guard = None;
       choice =
           (choice.Accept (record {
             head = record {
               place = (at 1 73);
-              name = (x 1 80 1);
+              name = (x 1 80 2);
               names = ((x 1 82 3) ∷ []);
               clauses = (record {
                 word =
@@ -302,12 +304,12 @@ text9 = (
       entries = [];
     } ∷ record { guard = None; choice = choice.Terminate; entries = [] } ∷ [])) ∷ []) ∷ item.Function
         (type_name.Number numeric.Int) (x 1 139 0) [] ((statement.Declare (record {
-          of = (type_name.Process (x 1 156 2));
+          of = (type_name.Process (x 1 156 1));
           name = (x 1 158 4);
           form =
               form.Plain;
-        })) ∷ (statement.Evaluate (phrase.Assign (phrase.Name (x 1 161 4)) (phrase.Create (at 1 165) (x 1 172 2) []))) ∷ (statement.Evaluate
-        (phrase.Chain (phrase.Name (x 1 177 4)) (step.Call (x 1 179 1) ((phrase.Number (at 1 181) (pos 0) numeric.Int) ∷ []) ∷ []))) ∷ []) ∷ []);
+        })) ∷ (statement.Evaluate (phrase.Assign (phrase.Name (x 1 161 4)) (phrase.Create (at 1 165) (x 1 172 1) []))) ∷ (statement.Evaluate
+        (phrase.Chain (phrase.Name (x 1 177 4)) (step.Call (x 1 179 2) ((phrase.Number (at 1 181) (pos 0) numeric.Int) ∷ []) ∷ []))) ∷ []) ∷ []);
   },
   None,
 )
@@ -318,29 +320,29 @@ text10 = (
   record {
     names = 6;
     formats = ((37 ∷ 100 ∷ []) ∷ []);
-    items = (item.Specification (x 1 14 3) [] (record {
+    items = (item.Specification (x 1 14 1) [] (record {
       result = (Some (type_name.Void (at 1
           26)));
-      name = (x 1 31 1);
+      name = (x 1 31 2);
       parameters = [];
-    } ∷ record { result = (Some (type_name.Number numeric.Int)); name = (x 1 47 2); parameters = [] } ∷ [])
-        ∷ item.Body (x 1 68 3) [] ((statement.Accept (record {
-          head = record { place = (at 1 74); name = (x 1 81 1); names = []; clauses = [] };
+    } ∷ record { result = (Some (type_name.Number numeric.Int)); name = (x 1 47 3); parameters = [] } ∷ [])
+        ∷ item.Body (x 1 68 1) [] ((statement.Accept (record {
+          head = record { place = (at 1 74); name = (x 1 81 2); names = []; clauses = [] };
           block =
               [];
         })) ∷ (statement.Accept (record {
-          head = record { place = (at 1 87); name = (x 1 94 2); names = []; clauses = [] };
+          head = record { place = (at 1 87); name = (x 1 94 3); names = []; clauses = [] };
           block =
               ((statement.TransactionReturn (at 1 100) (Some (phrase.Number (at 1 108) (pos 1) numeric.Int))) ∷ []);
         })) ∷ []) ∷ item.Function (type_name.Number
-        numeric.Int) (x 1 115 0) [] ((statement.Declare (record { of = (type_name.Process (x 1 132 3)); name = (x 1 134 4); form = form.Plain })) ∷
+        numeric.Int) (x 1 115 0) [] ((statement.Declare (record { of = (type_name.Process (x 1 132 1)); name = (x 1 134 4); form = form.Plain })) ∷
         (statement.Declare (record { of = (type_name.Number numeric.Int); name = (x 1 141 5); form = form.Plain })) ∷ (statement.Evaluate (phrase.Assign
-        (phrase.Name (x 1 144 4)) (phrase.Create (at 1 148) (x 1 155 3) []))) ∷ (statement.Evaluate (phrase.Assign (phrase.Name (x 1 160 5))
-        (phrase.Within (at 1 164) (phrase.Number (at 1 171) (pos 0) numeric.Int) (phrase.Chain (phrase.Name (x 1 175 4)) (step.Call (x 1 177 2) [] ∷ []))
+        (phrase.Name (x 1 144 4)) (phrase.Create (at 1 148) (x 1 155 1) []))) ∷ (statement.Evaluate (phrase.Assign (phrase.Name (x 1 160 5))
+        (phrase.Within (at 1 164) (phrase.Number (at 1 171) (pos 0) numeric.Int) (phrase.Chain (phrase.Name (x 1 175 4)) (step.Call (x 1 177 3) [] ∷ []))
         (phrase.Number (at 1 183) (pos 7) numeric.Int)))) ∷ (statement.Evaluate (phrase.PrintFormat (at 1 186) (record { place = (at 1 193); number = 0 })
-        ((phrase.Name (x 1 199 5)) ∷ []))) ∷ (statement.Evaluate (phrase.Chain (phrase.Name (x 1 203 4)) (step.Call (x 1 205 1) [] ∷ []))) ∷
+        ((phrase.Name (x 1 199 5)) ∷ []))) ∷ (statement.Evaluate (phrase.Chain (phrase.Name (x 1 203 4)) (step.Call (x 1 205 2) [] ∷ []))) ∷
         (statement.Evaluate (phrase.PrintFormat (at 1 211) (record { place = (at 1 218); number = 0 }) ((phrase.Chain (phrase.Name (x 1 224 4)) (step.Call
-        (x 1 226 2) [] ∷ [])) ∷ []))) ∷ []) ∷ []);
+        (x 1 226 3) [] ∷ [])) ∷ []))) ∷ []) ∷ []);
   },
   None,
 )
@@ -351,25 +353,25 @@ text11 = (
   record {
     names = 7;
     formats = [];
-    items = (item.Specification (x 1 14 2) [] (record {
+    items = (item.Specification (x 1 14 1) [] (record {
       result = (Some (type_name.Void (at 1 26)));
       name = (x 1 31
-          1);
-      parameters = ((type_name.Process (x 1 42 2)) ∷ []);
+          2);
+      parameters = ((type_name.Process (x 1 42 1)) ∷ []);
     } ∷ record {
       result = (Some (type_name.Void (at 1 54)));
       name = (x 1 59 3);
       parameters = [];
-    } ∷ []) ∷ item.Body (x 1 80 2) [] ((statement.Declare (record { of = (type_name.Process (x 1 94 2)); name = (x 1 96 4); form = form.Plain })) ∷
+    } ∷ []) ∷ item.Body (x 1 80 1) [] ((statement.Declare (record { of = (type_name.Process (x 1 94 1)); name = (x 1 96 4); form = form.Plain })) ∷
         (statement.Accept (record {
-          head = record { place = (at 1 99); name = (x 1 106 1); names = ((x 1 109 5) ∷ []); clauses = [] };
+          head = record { place = (at 1 99); name = (x 1 106 2); names = ((x 1 109 5) ∷ []); clauses = [] };
           block =
               ((statement.Evaluate (phrase.Assign (phrase.Name (x 1 114 4)) (phrase.Name (x 1 118 5)))) ∷ []);
         })) ∷ (statement.Evaluate (phrase.Chain
         (phrase.Name (x 1 123 4)) (step.Call (x 1 125 3) [] ∷ []))) ∷ []) ∷ item.Function (type_name.Number numeric.Int) (x 1 132 0) []
-        ((statement.Declare (record { of = (type_name.Process (x 1 149 2)); name = (x 1 151 6); form = form.Plain })) ∷ (statement.Evaluate (phrase.Assign
-        (phrase.Name (x 1 154 6)) (phrase.Create (at 1 158) (x 1 165 2) []))) ∷ (statement.Evaluate (phrase.Chain (phrase.Name (x 1 170 6)) (step.Call (x
-        1 172 1) ((phrase.Name (x 1 175 6)) ∷ []) ∷ []))) ∷ []) ∷ []);
+        ((statement.Declare (record { of = (type_name.Process (x 1 149 1)); name = (x 1 151 6); form = form.Plain })) ∷ (statement.Evaluate (phrase.Assign
+        (phrase.Name (x 1 154 6)) (phrase.Create (at 1 158) (x 1 165 1) []))) ∷ (statement.Evaluate (phrase.Chain (phrase.Name (x 1 170 6)) (step.Call (x
+        1 172 2) ((phrase.Name (x 1 175 6)) ∷ []) ∷ []))) ∷ []) ∷ []);
   },
   None,
 )

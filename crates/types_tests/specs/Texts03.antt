@@ -1,22 +1,12 @@
 -- 2 Duplicate
-use Rattle.std.specs.Prelude.{ℕ, pos, true, false, List, [], ◌∷◌, Option, Some, None}
-use Rattle.cc_base.specs.declared.names.Place.{Place}
-use Rattle.cc_base.specs.declared.numbers.Comparison.TheVariants as comparison
+use Rattle.std.specs.Prelude.{List, [], ◌∷◌, Some, None}
 use Rattle.cc_base.specs.declared.numbers.NumberType.TheVariants as numeric
-use Rattle.cc_base.specs.declared.numbers.Operator.TheVariants as operator
 use Rattle.cc_faults.specs.declared.fault.TypeKind.TheVariants as kind
-use Rattle.cc_faults.specs.declared.plain.Choice.TheVariants as choice
-use Rattle.cc_faults.specs.declared.plain.ClauseWord.TheVariants as clause_word
 use Rattle.cc_faults.specs.declared.plain.Item.TheVariants as item
-use Rattle.cc_faults.specs.declared.plain.Length.TheVariants as some_length
 use Rattle.cc_faults.specs.declared.plain.LocalForm.TheVariants as form
-use Rattle.cc_faults.specs.declared.plain.Phrase.TheVariants as phrase
-use Rattle.cc_faults.specs.declared.plain.Plain.{Plain}
 use Rattle.cc_faults.specs.declared.plain.Statement.TheVariants as statement
-use Rattle.cc_faults.specs.declared.plain.Step.TheVariants as step
-use Rattle.cc_faults.specs.declared.plain.StepWord.TheVariants as word
 use Rattle.cc_faults.specs.declared.plain.TypeName.TheVariants as type_name
-use Rattle.types_tests.specs.Seen.{Row, at, fault_at, x}
+use Rattle.types_tests.specs.Seen.{Row, fault_at, x}
 
 -- main() { int x; int x; }
 abbrev text0 : Row
@@ -45,10 +35,10 @@ text1 = (
   record {
     names = 3;
     formats = [];
-    items = (item.Function (type_name.Number numeric.Int) (x 1 1 2) (record {
+    items = (item.Function (type_name.Number numeric.Int) (x 1 1 1) (record {
       of = (type_name.Number numeric.Int);
-      name = (x 1 7 1);
-    } ∷ record { of = (type_name.Number numeric.Int); name = (x 1 14 1) } ∷ []) [] ∷ item.Function (type_name.Number numeric.Int) (x
+      name = (x 1 7 2);
+    } ∷ record { of = (type_name.Number numeric.Int); name = (x 1 14 2) } ∷ []) [] ∷ item.Function (type_name.Number numeric.Int) (x
         1 21 0) [] [] ∷ []);
   },
   Some (fault_at 1 14 kind.Duplicate),
@@ -60,10 +50,10 @@ text2 = (
   record {
     names = 3;
     formats = [];
-    items = (item.Function (type_name.Number numeric.Int) (x 1 1 2) (record {
+    items = (item.Function (type_name.Number numeric.Int) (x 1 1 1) (record {
       of = (type_name.Number numeric.Int);
-      name = (x 1 7 1);
-    } ∷ []) ((statement.Declare (record { of = (type_name.Number numeric.Int); name = (x 1 16 1); form = form.Plain })) ∷ []) ∷
+      name = (x 1 7 2);
+    } ∷ []) ((statement.Declare (record { of = (type_name.Number numeric.Int); name = (x 1 16 2); form = form.Plain })) ∷ []) ∷
         item.Function (type_name.Number numeric.Int) (x 1 21 0) [] [] ∷ []);
   },
   Some (fault_at 1 16 kind.Duplicate),
@@ -75,12 +65,12 @@ text3 = (
   record {
     names = 3;
     formats = [];
-    items = (item.Function (type_name.Number numeric.Int) (x 1 1 2) (record {
+    items = (item.Function (type_name.Number numeric.Int) (x 1 1 1) (record {
       of = (type_name.Number numeric.Int);
-      name = (x 1 7 1);
+      name = (x 1 7 2);
     } ∷ []) ((statement.Block ((statement.Declare (record {
       of = (type_name.Number numeric.Int);
-      name = (x 1 18 1);
+      name = (x 1 18 2);
       form = form.Plain;
     })) ∷ [])) ∷ []) ∷ item.Function (type_name.Number numeric.Int) (x 1 25 0) [] [] ∷ []);
   },

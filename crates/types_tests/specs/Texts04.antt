@@ -1,20 +1,11 @@
 -- 2 Duplicate
-use Rattle.std.specs.Prelude.{ℕ, pos, true, false, List, [], ◌∷◌, Option, Some, None}
-use Rattle.cc_base.specs.declared.names.Place.{Place}
-use Rattle.cc_base.specs.declared.numbers.Comparison.TheVariants as comparison
+use Rattle.std.specs.Prelude.{List, [], ◌∷◌, Some, None}
 use Rattle.cc_base.specs.declared.numbers.NumberType.TheVariants as numeric
-use Rattle.cc_base.specs.declared.numbers.Operator.TheVariants as operator
 use Rattle.cc_faults.specs.declared.fault.TypeKind.TheVariants as kind
 use Rattle.cc_faults.specs.declared.plain.Choice.TheVariants as choice
-use Rattle.cc_faults.specs.declared.plain.ClauseWord.TheVariants as clause_word
 use Rattle.cc_faults.specs.declared.plain.Item.TheVariants as item
-use Rattle.cc_faults.specs.declared.plain.Length.TheVariants as some_length
 use Rattle.cc_faults.specs.declared.plain.LocalForm.TheVariants as form
-use Rattle.cc_faults.specs.declared.plain.Phrase.TheVariants as phrase
-use Rattle.cc_faults.specs.declared.plain.Plain.{Plain}
 use Rattle.cc_faults.specs.declared.plain.Statement.TheVariants as statement
-use Rattle.cc_faults.specs.declared.plain.Step.TheVariants as step
-use Rattle.cc_faults.specs.declared.plain.StepWord.TheVariants as word
 use Rattle.cc_faults.specs.declared.plain.TypeName.TheVariants as type_name
 use Rattle.types_tests.specs.Seen.{Row, at, fault_at, x}
 
@@ -48,13 +39,13 @@ text2 = (
   record {
     names = 3;
     formats = [];
-    items = (item.Specification (x 1 14 2) [] (record {
+    items = (item.Specification (x 1 14 1) [] (record {
       result = (Some (type_name.Void (at 1 26)));
       name = (x 1 31
-          1);
+          2);
       parameters = [];
-    } ∷ record { result = None; name = (x 1 48 1); parameters = ((type_name.Number numeric.Int) ∷ []) } ∷ []) ∷ item.Body (x 1 74
-        2) [] [] ∷ item.Function (type_name.Number numeric.Int) (x 1 82 0) [] [] ∷ []);
+    } ∷ record { result = None; name = (x 1 48 2); parameters = ((type_name.Number numeric.Int) ∷ []) } ∷ []) ∷ item.Body (x 1 74
+        1) [] [] ∷ item.Function (type_name.Number numeric.Int) (x 1 82 0) [] [] ∷ []);
   },
   Some (fault_at 1 48 kind.Duplicate),
 )
@@ -91,13 +82,13 @@ text5 = (
   record {
     names = 4;
     formats = [];
-    items = (item.Specification (x 1 14 2) [] (record {
+    items = (item.Specification (x 1 14 1) [] (record {
       result = (Some (type_name.Void (at 1 26)));
       name = (x 1 31
-          1);
+          2);
       parameters = ((type_name.Number numeric.Int) ∷ (type_name.Number numeric.Int) ∷ []);
-    } ∷ []) ∷ item.Body (x 1 64 2) [] ((statement.Accept
-        (record { head = record { place = (at 1 70); name = (x 1 77 1); names = ((x 1 79 3) ∷ (x 1 82 3) ∷ []); clauses = [] }; block = [] })) ∷ []) ∷
+    } ∷ []) ∷ item.Body (x 1 64 1) [] ((statement.Accept
+        (record { head = record { place = (at 1 70); name = (x 1 77 2); names = ((x 1 79 3) ∷ (x 1 82 3) ∷ []); clauses = [] }; block = [] })) ∷ []) ∷
         item.Function (type_name.Number numeric.Int) (x 1 88 0) [] [] ∷ []);
   },
   Some (fault_at 1 82 kind.Duplicate),
@@ -109,16 +100,16 @@ text6 = (
   record {
     names = 4;
     formats = [];
-    items = (item.Specification (x 1 14 2) [] (record {
+    items = (item.Specification (x 1 14 1) [] (record {
       result = (Some (type_name.Void (at 1 26)));
       name = (x 1 31
-          1);
+          2);
       parameters = ((type_name.Number numeric.Int) ∷ []);
-    } ∷ []) ∷ item.Body (x 1 57 2) [] ((statement.Accept (record {
+    } ∷ []) ∷ item.Body (x 1 57 1) [] ((statement.Accept (record {
       head = record {
         place = (at
             1 63);
-        name = (x 1 70 1);
+        name = (x 1 70 2);
         names = ((x 1 72 3) ∷ []);
         clauses = [];
       };
@@ -138,13 +129,13 @@ text7 = (
   record {
     names = 5;
     formats = [];
-    items = (item.Specification (x 1 14 2) ((type_name.Number numeric.Int) ∷ (type_name.Number numeric.Int) ∷ [])
+    items = (item.Specification (x 1 14 1) ((type_name.Number numeric.Int) ∷ (type_name.Number numeric.Int) ∷ [])
         (record {
           result = (Some (type_name.Void (at 1 38)));
-          name = (x 1 43 1);
+          name = (x 1 43 2);
           parameters = ((type_name.Number numeric.Int) ∷ (type_name.Number
               numeric.Int) ∷ []);
-        } ∷ []) ∷ item.Body (x 1 76 2) ((x 1 78 3) ∷ (x 1 81 4) ∷ []) [] ∷ item.Function (type_name.Number numeric.Int) (x 1 88 0) []
+        } ∷ []) ∷ item.Body (x 1 76 1) ((x 1 78 3) ∷ (x 1 81 4) ∷ []) [] ∷ item.Function (type_name.Number numeric.Int) (x 1 88 0) []
         [] ∷ []);
   },
   None,
@@ -178,12 +169,12 @@ text9 = (
   record {
     names = 4;
     formats = [];
-    items = (item.Specification (x 1 14 2) [] (record {
+    items = (item.Specification (x 1 14 1) [] (record {
       result = (Some (type_name.Void (at 1 26)));
       name = (x 1 31
-          1);
+          2);
       parameters = [];
-    } ∷ []) ∷ item.Body (x 1 52 2) [] ((statement.Select (at 1 58) (record {
+    } ∷ []) ∷ item.Body (x 1 52 1) [] ((statement.Select (at 1 58) (record {
       guard = None;
       choice = choice.Immediate;
       entries =

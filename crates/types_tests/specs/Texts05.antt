@@ -1,20 +1,13 @@
 -- 3 UnknownName
-use Rattle.std.specs.Prelude.{ℕ, pos, true, false, List, [], ◌∷◌, Option, Some, None}
-use Rattle.cc_base.specs.declared.names.Place.{Place}
-use Rattle.cc_base.specs.declared.numbers.Comparison.TheVariants as comparison
+use Rattle.std.specs.Prelude.{pos, false, List, [], ◌∷◌, Some, None}
 use Rattle.cc_base.specs.declared.numbers.NumberType.TheVariants as numeric
-use Rattle.cc_base.specs.declared.numbers.Operator.TheVariants as operator
 use Rattle.cc_faults.specs.declared.fault.TypeKind.TheVariants as kind
 use Rattle.cc_faults.specs.declared.plain.Choice.TheVariants as choice
-use Rattle.cc_faults.specs.declared.plain.ClauseWord.TheVariants as clause_word
 use Rattle.cc_faults.specs.declared.plain.Item.TheVariants as item
 use Rattle.cc_faults.specs.declared.plain.Length.TheVariants as some_length
 use Rattle.cc_faults.specs.declared.plain.LocalForm.TheVariants as form
 use Rattle.cc_faults.specs.declared.plain.Phrase.TheVariants as phrase
-use Rattle.cc_faults.specs.declared.plain.Plain.{Plain}
 use Rattle.cc_faults.specs.declared.plain.Statement.TheVariants as statement
-use Rattle.cc_faults.specs.declared.plain.Step.TheVariants as step
-use Rattle.cc_faults.specs.declared.plain.StepWord.TheVariants as word
 use Rattle.cc_faults.specs.declared.plain.TypeName.TheVariants as type_name
 use Rattle.types_tests.specs.Seen.{Row, at, fault_at, x}
 
@@ -51,8 +44,8 @@ text2 = (
     items = (item.Function (type_name.Number numeric.Int) (x 1 1 0) [] ((statement.Declare (record {
       of =
           (type_name.Number numeric.Int);
-      name = (x 1 14 2);
-      form = form.Array (some_length.Name (x 1 16 1));
+      name = (x 1 14 1);
+      form = form.Array (some_length.Name (x 1 16 2));
     })) ∷ []) ∷ []);
   },
   Some (fault_at 1 16
@@ -190,16 +183,16 @@ text10 = (
   record {
     names = 4;
     formats = [];
-    items = (item.Specification (x 1 14 2) [] (record {
+    items = (item.Specification (x 1 14 1) [] (record {
       result = (Some (type_name.Void (at 1 26)));
       name = (x 1 31
-          1);
+          2);
       parameters = ((type_name.Number numeric.Int) ∷ []);
-    } ∷ []) ∷ item.Body (x 1 57 2) [] ((statement.Accept (record {
+    } ∷ []) ∷ item.Body (x 1 57 1) [] ((statement.Accept (record {
       head = record {
         place = (at
             1 63);
-        name = (x 1 70 1);
+        name = (x 1 70 2);
         names = ((x 1 72 3) ∷ []);
         clauses = [];
       };
@@ -216,14 +209,14 @@ text11 = (
   record {
     names = 4;
     formats = [];
-    items = (item.Specification (x 1 14 2) [] (record {
+    items = (item.Specification (x 1 14 1) [] (record {
       result = (Some (type_name.Void (at 1 26)));
       name = (x 1 31
-          1);
+          2);
       parameters = ((type_name.Number numeric.Int) ∷ []);
-    } ∷ []) ∷ item.Body (x 1 57 2) [] ((statement.Select (at 1 63) (record {
+    } ∷ []) ∷ item.Body (x 1 57 1) [] ((statement.Select (at 1 63) (record {
       guard = None;
-      choice = (choice.Accept (record { head = record { place = (at 1 72); name = (x 1 79 1); names = ((x 1 81 3) ∷ []); clauses = [] }; block = [] }));
+      choice = (choice.Accept (record { head = record { place = (at 1 72); name = (x 1 79 2); names = ((x 1 81 3) ∷ []); clauses = [] }; block = [] }));
       entries = ((statement.Evaluate (phrase.Name (x 1 88 3))) ∷ []);
     } ∷ [])) ∷ []) ∷ item.Function (type_name.Number numeric.Int) (x 1 95 0) [] [] ∷
         []);

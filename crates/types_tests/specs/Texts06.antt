@@ -1,20 +1,14 @@
 -- 3 UnknownName
-use Rattle.std.specs.Prelude.{ℕ, pos, true, false, List, [], ◌∷◌, Option, Some, None}
-use Rattle.cc_base.specs.declared.names.Place.{Place}
-use Rattle.cc_base.specs.declared.numbers.Comparison.TheVariants as comparison
+use Rattle.std.specs.Prelude.{pos, false, List, [], ◌∷◌, Some, None}
 use Rattle.cc_base.specs.declared.numbers.NumberType.TheVariants as numeric
 use Rattle.cc_base.specs.declared.numbers.Operator.TheVariants as operator
 use Rattle.cc_faults.specs.declared.fault.TypeKind.TheVariants as kind
-use Rattle.cc_faults.specs.declared.plain.Choice.TheVariants as choice
-use Rattle.cc_faults.specs.declared.plain.ClauseWord.TheVariants as clause_word
 use Rattle.cc_faults.specs.declared.plain.Item.TheVariants as item
 use Rattle.cc_faults.specs.declared.plain.Length.TheVariants as some_length
 use Rattle.cc_faults.specs.declared.plain.LocalForm.TheVariants as form
 use Rattle.cc_faults.specs.declared.plain.Phrase.TheVariants as phrase
-use Rattle.cc_faults.specs.declared.plain.Plain.{Plain}
 use Rattle.cc_faults.specs.declared.plain.Statement.TheVariants as statement
 use Rattle.cc_faults.specs.declared.plain.Step.TheVariants as step
-use Rattle.cc_faults.specs.declared.plain.StepWord.TheVariants as word
 use Rattle.cc_faults.specs.declared.plain.TypeName.TheVariants as type_name
 use Rattle.types_tests.specs.Seen.{Row, at, fault_at, x}
 
@@ -45,11 +39,11 @@ text1 = (
     })) ∷ (statement.Declare
         (record {
           of = (type_name.Number numeric.Int);
-          name = (x 1 21 3);
+          name = (x 1 21 2);
           form = form.Value (phrase.Arithmetic (phrase.Name (x 1 25 1)) (record {
             operator
                 = operator.Add;
-            operand = (phrase.Name (x 1 29 2));
+            operand = (phrase.Name (x 1 29 3));
           } ∷ []));
         })) ∷ (statement.Declare (record {
           of = (type_name.Number numeric.Int);

@@ -1,20 +1,12 @@
 -- 4 UnknownType
-use Rattle.std.specs.Prelude.{ℕ, pos, true, false, List, [], ◌∷◌, Option, Some, None}
-use Rattle.cc_base.specs.declared.names.Place.{Place}
-use Rattle.cc_base.specs.declared.numbers.Comparison.TheVariants as comparison
+use Rattle.std.specs.Prelude.{pos, List, [], ◌∷◌, Some, None}
 use Rattle.cc_base.specs.declared.numbers.NumberType.TheVariants as numeric
 use Rattle.cc_base.specs.declared.numbers.Operator.TheVariants as operator
 use Rattle.cc_faults.specs.declared.fault.TypeKind.TheVariants as kind
-use Rattle.cc_faults.specs.declared.plain.Choice.TheVariants as choice
-use Rattle.cc_faults.specs.declared.plain.ClauseWord.TheVariants as clause_word
 use Rattle.cc_faults.specs.declared.plain.Item.TheVariants as item
-use Rattle.cc_faults.specs.declared.plain.Length.TheVariants as some_length
 use Rattle.cc_faults.specs.declared.plain.LocalForm.TheVariants as form
 use Rattle.cc_faults.specs.declared.plain.Phrase.TheVariants as phrase
-use Rattle.cc_faults.specs.declared.plain.Plain.{Plain}
 use Rattle.cc_faults.specs.declared.plain.Statement.TheVariants as statement
-use Rattle.cc_faults.specs.declared.plain.Step.TheVariants as step
-use Rattle.cc_faults.specs.declared.plain.StepWord.TheVariants as word
 use Rattle.cc_faults.specs.declared.plain.TypeName.TheVariants as type_name
 use Rattle.types_tests.specs.Seen.{Row, at, fault_at, x}
 
@@ -88,11 +80,11 @@ text4 = (
   record {
     names = 5;
     formats = [];
-    items = (item.Function (type_name.Number numeric.Int) (x 1 1 3) (record {
+    items = (item.Function (type_name.Number numeric.Int) (x 1 1 1) (record {
       of = (type_name.Structure (x 1 10
-          1));
-      name = (x 1 12 2);
-    } ∷ []) [] ∷ item.Structure (x 1 26 1) (record { of = (type_name.Number numeric.Int); name = (x 1 34 4); length = None } ∷
+          2));
+      name = (x 1 12 3);
+    } ∷ []) [] ∷ item.Structure (x 1 26 2) (record { of = (type_name.Number numeric.Int); name = (x 1 34 4); length = None } ∷
         []) ∷ item.Function (type_name.Number numeric.Int) (x 1 40 0) [] [] ∷ []);
   },
   Some (fault_at 1 10 kind.UnknownType),
@@ -116,12 +108,12 @@ text6 = (
   record {
     names = 4;
     formats = [];
-    items = (item.Specification (x 1 14 3) [] (record {
-      result = (Some (type_name.Structure (x 1 33 1)));
+    items = (item.Specification (x 1 14 1) [] (record {
+      result = (Some (type_name.Structure (x 1 33 2)));
       name = (x
-          1 35 2);
+          1 35 3);
       parameters = [];
-    } ∷ []) ∷ item.Body (x 1 56 3) [] [] ∷ item.Function (type_name.Number numeric.Int) (x 1 64 0) [] [] ∷ []);
+    } ∷ []) ∷ item.Body (x 1 56 1) [] [] ∷ item.Function (type_name.Number numeric.Int) (x 1 64 0) [] [] ∷ []);
   },
   Some
       (fault_at 1 33 kind.UnknownType),

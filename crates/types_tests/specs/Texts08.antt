@@ -1,20 +1,12 @@
 -- 5 VoidHere
-use Rattle.std.specs.Prelude.{ℕ, pos, true, false, List, [], ◌∷◌, Option, Some, None}
-use Rattle.cc_base.specs.declared.names.Place.{Place}
-use Rattle.cc_base.specs.declared.numbers.Comparison.TheVariants as comparison
+use Rattle.std.specs.Prelude.{pos, List, [], ◌∷◌, Some, None}
 use Rattle.cc_base.specs.declared.numbers.NumberType.TheVariants as numeric
-use Rattle.cc_base.specs.declared.numbers.Operator.TheVariants as operator
 use Rattle.cc_faults.specs.declared.fault.TypeKind.TheVariants as kind
-use Rattle.cc_faults.specs.declared.plain.Choice.TheVariants as choice
-use Rattle.cc_faults.specs.declared.plain.ClauseWord.TheVariants as clause_word
 use Rattle.cc_faults.specs.declared.plain.Item.TheVariants as item
 use Rattle.cc_faults.specs.declared.plain.Length.TheVariants as some_length
 use Rattle.cc_faults.specs.declared.plain.LocalForm.TheVariants as form
 use Rattle.cc_faults.specs.declared.plain.Phrase.TheVariants as phrase
-use Rattle.cc_faults.specs.declared.plain.Plain.{Plain}
 use Rattle.cc_faults.specs.declared.plain.Statement.TheVariants as statement
-use Rattle.cc_faults.specs.declared.plain.Step.TheVariants as step
-use Rattle.cc_faults.specs.declared.plain.StepWord.TheVariants as word
 use Rattle.cc_faults.specs.declared.plain.TypeName.TheVariants as type_name
 use Rattle.types_tests.specs.Seen.{Row, at, fault_at, x}
 
@@ -40,10 +32,10 @@ text1 = (
   record {
     names = 3;
     formats = [];
-    items = (item.Function (type_name.Number numeric.Int) (x 1 1 2) (record {
+    items = (item.Function (type_name.Number numeric.Int) (x 1 1 1) (record {
       of = (type_name.Void (at 1 3));
       name
-          = (x 1 8 1);
+          = (x 1 8 2);
     } ∷ []) [] ∷ item.Function (type_name.Number numeric.Int) (x 1 15 0) [] [] ∷ []);
   },
   Some (fault_at 1 3 kind.VoidHere),
@@ -92,12 +84,12 @@ text5 = (
   record {
     names = 3;
     formats = [];
-    items = (item.Specification (x 1 14 2) [] (record {
+    items = (item.Specification (x 1 14 1) [] (record {
       result = (Some (type_name.Void (at 1 26)));
       name = (x 1 31
-          1);
+          2);
       parameters = ((type_name.Void (at 1 33)) ∷ []);
-    } ∷ []) ∷ item.Body (x 1 58 2) [] [] ∷ item.Function (type_name.Number numeric.Int) (x 1 66 0)
+    } ∷ []) ∷ item.Body (x 1 58 1) [] [] ∷ item.Function (type_name.Number numeric.Int) (x 1 66 0)
         [] [] ∷ []);
   },
   Some (fault_at 1 33 kind.VoidHere),
@@ -126,13 +118,13 @@ text7 = (
   record {
     names = 4;
     formats = [];
-    items = (item.Specification (x 1 14 2) [] (record {
+    items = (item.Specification (x 1 14 1) [] (record {
       result = (Some (type_name.Void (at 1 30)));
       name = (x 1 35
-          1);
+          2);
       parameters = [];
-    } ∷ []) ∷ item.Body (x 1 60 2) [] [] ∷ item.Function (type_name.Number numeric.Int) (x 1 68 3) [] [] ∷ item.Function
-        (type_name.Number numeric.Int) (x 1 80 0) [] ((statement.Evaluate (phrase.Create (at 1 93) (x 1 100 2) [])) ∷ []) ∷ []);
+    } ∷ []) ∷ item.Body (x 1 60 1) [] [] ∷ item.Function (type_name.Number numeric.Int) (x 1 68 3) [] [] ∷ item.Function
+        (type_name.Number numeric.Int) (x 1 80 0) [] ((statement.Evaluate (phrase.Create (at 1 93) (x 1 100 1) [])) ∷ []) ∷ []);
   },
   None,
 )

@@ -1,20 +1,9 @@
 -- 9 ManyCells
-use Rattle.std.specs.Prelude.{ℕ, pos, true, false, List, [], ◌∷◌, Option, Some, None}
-use Rattle.cc_base.specs.declared.names.Place.{Place}
-use Rattle.cc_base.specs.declared.numbers.Comparison.TheVariants as comparison
+use Rattle.std.specs.Prelude.{pos, List, [], ◌∷◌, Some, None}
 use Rattle.cc_base.specs.declared.numbers.NumberType.TheVariants as numeric
-use Rattle.cc_base.specs.declared.numbers.Operator.TheVariants as operator
 use Rattle.cc_faults.specs.declared.fault.TypeKind.TheVariants as kind
-use Rattle.cc_faults.specs.declared.plain.Choice.TheVariants as choice
-use Rattle.cc_faults.specs.declared.plain.ClauseWord.TheVariants as clause_word
 use Rattle.cc_faults.specs.declared.plain.Item.TheVariants as item
 use Rattle.cc_faults.specs.declared.plain.Length.TheVariants as some_length
-use Rattle.cc_faults.specs.declared.plain.LocalForm.TheVariants as form
-use Rattle.cc_faults.specs.declared.plain.Phrase.TheVariants as phrase
-use Rattle.cc_faults.specs.declared.plain.Plain.{Plain}
-use Rattle.cc_faults.specs.declared.plain.Statement.TheVariants as statement
-use Rattle.cc_faults.specs.declared.plain.Step.TheVariants as step
-use Rattle.cc_faults.specs.declared.plain.StepWord.TheVariants as word
 use Rattle.cc_faults.specs.declared.plain.TypeName.TheVariants as type_name
 use Rattle.types_tests.specs.Seen.{Row, at, fault_at, x}
 
@@ -29,10 +18,10 @@ text0 = (
       name = (x 1 16 2);
       length =
           (Some (some_length.Number (at 1 18) (pos 257)));
-    } ∷ []) ∷ item.Function (type_name.Number numeric.Int) (x 1 27 4) (record {
+    } ∷ []) ∷ item.Function (type_name.Number numeric.Int) (x 1 27 3) (record {
       of =
           (type_name.Structure (x 1 36 1));
-      name = (x 1 38 3);
+      name = (x 1 38 4);
     } ∷ []) [] ∷ item.Function (type_name.Number numeric.Int) (x 1 45 0) [] [] ∷ []);
   },
   Some
@@ -50,10 +39,10 @@ text1 = (
       name = (x 1 16 2);
       length =
           (Some (some_length.Number (at 1 18) (pos 256)));
-    } ∷ []) ∷ item.Function (type_name.Number numeric.Int) (x 1 27 4) (record {
+    } ∷ []) ∷ item.Function (type_name.Number numeric.Int) (x 1 27 3) (record {
       of =
           (type_name.Structure (x 1 36 1));
-      name = (x 1 38 3);
+      name = (x 1 38 4);
     } ∷ []) [] ∷ item.Function (type_name.Number numeric.Int) (x 1 45 0) [] [] ∷ []);
   },
   None,
@@ -70,15 +59,15 @@ text2 = (
       name = (x 1 16 2);
       length =
           (Some (some_length.Number (at 1 18) (pos 256)));
-    } ∷ []) ∷ item.Function (type_name.Number numeric.Int) (x 1 27 4) (record {
+    } ∷ []) ∷ item.Function (type_name.Number numeric.Int) (x 1 27 3) (record {
       of =
           (type_name.Structure (x 1 36 1));
-      name = (x 1 38 3);
-    } ∷ []) [] ∷ item.Function (type_name.Number numeric.Int) (x 1 45 6) (record {
+      name = (x 1 38 4);
+    } ∷ []) [] ∷ item.Function (type_name.Number numeric.Int) (x 1 45 5) (record {
       of =
           (type_name.Structure (x 1 54 1));
-      name = (x 1 56 3);
-    } ∷ record { of = (type_name.Number numeric.Int); name = (x 1 63 5) } ∷ []) [] ∷ item.Function
+      name = (x 1 56 4);
+    } ∷ record { of = (type_name.Number numeric.Int); name = (x 1 63 6) } ∷ []) [] ∷ item.Function
         (type_name.Number numeric.Int) (x 1 70 0) [] [] ∷ []);
   },
   Some (fault_at 1 45 kind.ManyCells),
@@ -113,16 +102,16 @@ text4 = (
       name = (x 1 16 2);
       length =
           (Some (some_length.Number (at 1 18) (pos 129)));
-    } ∷ []) ∷ item.Specification (x 1 40 5) [] (record {
+    } ∷ []) ∷ item.Specification (x 1 40 3) [] (record {
       result = (Some (type_name.Void (at 1 52)));
-      name = (x 1 57 3);
+      name = (x 1 57 4);
       parameters = ((type_name.Structure (x 1 66 1)) ∷ (type_name.Structure (x 1 78 1)) ∷ []);
     } ∷ record {
       result = (Some
           (type_name.Structure (x 1 97 1)));
-      name = (x 1 99 4);
+      name = (x 1 99 5);
       parameters = ((type_name.Structure (x 1 108 1)) ∷ []);
-    } ∷ []) ∷ item.Body (x 1 130 5) [] []
+    } ∷ []) ∷ item.Body (x 1 130 3) [] []
         ∷ item.Function (type_name.Number numeric.Int) (x 1 138 0) [] [] ∷ []);
   },
   Some (fault_at 1 57 kind.ManyCells),

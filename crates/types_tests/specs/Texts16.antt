@@ -1,20 +1,12 @@
 -- 13 Arity
-use Rattle.std.specs.Prelude.{ℕ, pos, true, false, List, [], ◌∷◌, Option, Some, None}
-use Rattle.cc_base.specs.declared.names.Place.{Place}
-use Rattle.cc_base.specs.declared.numbers.Comparison.TheVariants as comparison
+use Rattle.std.specs.Prelude.{pos, List, [], ◌∷◌, Some, None}
 use Rattle.cc_base.specs.declared.numbers.NumberType.TheVariants as numeric
-use Rattle.cc_base.specs.declared.numbers.Operator.TheVariants as operator
 use Rattle.cc_faults.specs.declared.fault.TypeKind.TheVariants as kind
-use Rattle.cc_faults.specs.declared.plain.Choice.TheVariants as choice
-use Rattle.cc_faults.specs.declared.plain.ClauseWord.TheVariants as clause_word
 use Rattle.cc_faults.specs.declared.plain.Item.TheVariants as item
-use Rattle.cc_faults.specs.declared.plain.Length.TheVariants as some_length
 use Rattle.cc_faults.specs.declared.plain.LocalForm.TheVariants as form
 use Rattle.cc_faults.specs.declared.plain.Phrase.TheVariants as phrase
-use Rattle.cc_faults.specs.declared.plain.Plain.{Plain}
 use Rattle.cc_faults.specs.declared.plain.Statement.TheVariants as statement
 use Rattle.cc_faults.specs.declared.plain.Step.TheVariants as step
-use Rattle.cc_faults.specs.declared.plain.StepWord.TheVariants as word
 use Rattle.cc_faults.specs.declared.plain.TypeName.TheVariants as type_name
 use Rattle.types_tests.specs.Seen.{Row, at, fault_at, x}
 
@@ -37,11 +29,11 @@ text1 = (
   record {
     names = 6;
     formats = [];
-    items = (item.Function (type_name.Number numeric.Int) (x 1 1 3) (record {
+    items = (item.Function (type_name.Number numeric.Int) (x 1 1 1) (record {
       of = (type_name.Number numeric.Int);
-      name = (x 1 7 1);
-    } ∷ record { of = (type_name.Number numeric.Int); name = (x 1 14 2) } ∷ []) [] ∷ item.Function (type_name.Number numeric.Int) (x
-        1 21 0) [] ((statement.Evaluate (phrase.Call (x 1 30 3) ((phrase.Number (at 1 32) (pos 1) numeric.Int) ∷ (phrase.Name (x 1 35 4)) ∷ (phrase.Name
+      name = (x 1 7 2);
+    } ∷ record { of = (type_name.Number numeric.Int); name = (x 1 14 3) } ∷ []) [] ∷ item.Function (type_name.Number numeric.Int) (x
+        1 21 0) [] ((statement.Evaluate (phrase.Call (x 1 30 1) ((phrase.Number (at 1 32) (pos 1) numeric.Int) ∷ (phrase.Name (x 1 35 4)) ∷ (phrase.Name
         (x 1 38 5)) ∷ []))) ∷ []) ∷ []);
   },
   Some (fault_at 1 30 kind.Arity),
@@ -66,14 +58,14 @@ text3 = (
   record {
     names = 4;
     formats = [];
-    items = (item.Specification (x 1 14 2) [] (record {
+    items = (item.Specification (x 1 14 1) [] (record {
       result = (Some (type_name.Number numeric.Int));
       name = (x 1
-          30 1);
+          30 2);
       parameters = ((type_name.Number numeric.Int) ∷ []);
-    } ∷ []) ∷ item.Body (x 1 56 2) [] [] ∷ item.Function (type_name.Number numeric.Int) (x 1
-        64 0) [] ((statement.Declare (record { of = (type_name.Process (x 1 81 2)); name = (x 1 83 3); form = form.Plain })) ∷ (statement.Evaluate
-        (phrase.Chain (phrase.Name (x 1 86 3)) (step.Call (x 1 88 1) [] ∷ []))) ∷ []) ∷ []);
+    } ∷ []) ∷ item.Body (x 1 56 1) [] [] ∷ item.Function (type_name.Number numeric.Int) (x 1
+        64 0) [] ((statement.Declare (record { of = (type_name.Process (x 1 81 1)); name = (x 1 83 3); form = form.Plain })) ∷ (statement.Evaluate
+        (phrase.Chain (phrase.Name (x 1 86 3)) (step.Call (x 1 88 2) [] ∷ []))) ∷ []) ∷ []);
   },
   Some (fault_at 1 88 kind.Arity),
 )
@@ -84,16 +76,16 @@ text4 = (
   record {
     names = 6;
     formats = [];
-    items = (item.Specification (x 1 14 2) [] (record {
+    items = (item.Specification (x 1 14 1) [] (record {
       result = (Some (type_name.Void (at 1 26)));
       name = (x 1 31
-          1);
+          2);
       parameters = ((type_name.Number numeric.Int) ∷ []);
-    } ∷ []) ∷ item.Body (x 1 57 2) [] ((statement.Accept (record {
+    } ∷ []) ∷ item.Body (x 1 57 1) [] ((statement.Accept (record {
       head = record {
         place = (at
             1 63);
-        name = (x 1 70 1);
+        name = (x 1 70 2);
         names = ((x 1 72 3) ∷ (x 1 75 4) ∷ []);
         clauses = [];
       };
@@ -150,11 +142,11 @@ text8 = (
   record {
     names = 5;
     formats = [];
-    items = (item.Function (type_name.Number numeric.Int) (x 1 1 3) (record {
+    items = (item.Function (type_name.Number numeric.Int) (x 1 1 1) (record {
       of = (type_name.Number numeric.Int);
-      name = (x 1 7 1);
-    } ∷ record { of = (type_name.Number numeric.Int); name = (x 1 14 2) } ∷ []) [] ∷ item.Function (type_name.Number numeric.Int) (x
-        1 21 0) [] ((statement.Evaluate (phrase.Call (x 1 30 3) ((phrase.Name (x 1 32 4)) ∷ []))) ∷ []) ∷ []);
+      name = (x 1 7 2);
+    } ∷ record { of = (type_name.Number numeric.Int); name = (x 1 14 3) } ∷ []) [] ∷ item.Function (type_name.Number numeric.Int) (x
+        1 21 0) [] ((statement.Evaluate (phrase.Call (x 1 30 1) ((phrase.Name (x 1 32 4)) ∷ []))) ∷ []) ∷ []);
   },
   Some (fault_at 1 30 kind.Arity),
 )

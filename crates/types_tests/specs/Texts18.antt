@@ -1,20 +1,13 @@
 -- 14 Mismatch
-use Rattle.std.specs.Prelude.{ℕ, pos, true, false, List, [], ◌∷◌, Option, Some, None}
-use Rattle.cc_base.specs.declared.names.Place.{Place}
-use Rattle.cc_base.specs.declared.numbers.Comparison.TheVariants as comparison
+use Rattle.std.specs.Prelude.{pos, List, [], ◌∷◌, Some, None}
 use Rattle.cc_base.specs.declared.numbers.NumberType.TheVariants as numeric
-use Rattle.cc_base.specs.declared.numbers.Operator.TheVariants as operator
 use Rattle.cc_faults.specs.declared.fault.TypeKind.TheVariants as kind
-use Rattle.cc_faults.specs.declared.plain.Choice.TheVariants as choice
-use Rattle.cc_faults.specs.declared.plain.ClauseWord.TheVariants as clause_word
 use Rattle.cc_faults.specs.declared.plain.Item.TheVariants as item
 use Rattle.cc_faults.specs.declared.plain.Length.TheVariants as some_length
 use Rattle.cc_faults.specs.declared.plain.LocalForm.TheVariants as form
 use Rattle.cc_faults.specs.declared.plain.Phrase.TheVariants as phrase
-use Rattle.cc_faults.specs.declared.plain.Plain.{Plain}
 use Rattle.cc_faults.specs.declared.plain.Statement.TheVariants as statement
 use Rattle.cc_faults.specs.declared.plain.Step.TheVariants as step
-use Rattle.cc_faults.specs.declared.plain.StepWord.TheVariants as word
 use Rattle.cc_faults.specs.declared.plain.TypeName.TheVariants as type_name
 use Rattle.types_tests.specs.Seen.{Row, at, fault_at, x}
 
@@ -29,8 +22,8 @@ text0 = (
       name = (x 1 16 2);
       length =
           None;
-    } ∷ []) ∷ item.Function (type_name.Number numeric.Int) (x 1 22 4) (record { of = (type_name.Structure (x 1 31 1)); name = (x 1 33 3) } ∷ [])
-        [] ∷ item.Function (type_name.Number numeric.Int) (x 1 40 0) [] ((statement.Evaluate (phrase.Call (x 1 49 4) ((phrase.Number (at 1 51) (pos 1)
+    } ∷ []) ∷ item.Function (type_name.Number numeric.Int) (x 1 22 3) (record { of = (type_name.Structure (x 1 31 1)); name = (x 1 33 4) } ∷ [])
+        [] ∷ item.Function (type_name.Number numeric.Int) (x 1 40 0) [] ((statement.Evaluate (phrase.Call (x 1 49 3) ((phrase.Number (at 1 51) (pos 1)
         numeric.Int) ∷ []))) ∷ []) ∷ []);
   },
   Some (fault_at 1 51 kind.Mismatch),
@@ -97,20 +90,20 @@ text4 = (
   record {
     names = 3;
     formats = [];
-    items = (item.Specification (x 1 14 2) [] (record {
+    items = (item.Specification (x 1 14 1) [] (record {
       result = (Some (type_name.Number numeric.Int));
       name = (x 1
-          30 1);
+          30 2);
       parameters = [];
-    } ∷ []) ∷ item.Body (x 1 51 2) [] ((statement.Accept (record {
+    } ∷ []) ∷ item.Body (x 1 51 1) [] ((statement.Accept (record {
       head = record {
         place = (at 1 57);
-        name = (x 1 64 1);
+        name = (x 1 64 2);
         names
             = [];
         clauses = [];
       };
-      block = ((statement.TransactionReturn (at 1 70) (Some (phrase.Create (at 1 78) (x 1 85 2) []))) ∷ []);
+      block = ((statement.TransactionReturn (at 1 70) (Some (phrase.Create (at 1 78) (x 1 85 1) []))) ∷ []);
     })) ∷ []) ∷
         item.Function (type_name.Number numeric.Int) (x 1 94 0) [] [] ∷ []);
   },
@@ -195,14 +188,14 @@ text9 = (
   record {
     names = 4;
     formats = [];
-    items = (item.Specification (x 1 14 2) [] (record {
+    items = (item.Specification (x 1 14 1) [] (record {
       result = (Some (type_name.Number numeric.Int));
       name = (x 1
-          30 1);
+          30 2);
       parameters = [];
-    } ∷ []) ∷ item.Body (x 1 51 2) [] [] ∷ item.Function (type_name.Number numeric.Int) (x 1 59 0) [] ((statement.Declare
-        (record { of = (type_name.Process (x 1 76 2)); name = (x 1 78 3); form = form.Plain })) ∷ (statement.Evaluate (phrase.Chain (phrase.Name (x 1 81
-        3)) (step.Field (x 1 83 1) ∷ []))) ∷ []) ∷ []);
+    } ∷ []) ∷ item.Body (x 1 51 1) [] [] ∷ item.Function (type_name.Number numeric.Int) (x 1 59 0) [] ((statement.Declare
+        (record { of = (type_name.Process (x 1 76 1)); name = (x 1 78 3); form = form.Plain })) ∷ (statement.Evaluate (phrase.Chain (phrase.Name (x 1 81
+        3)) (step.Field (x 1 83 2) ∷ []))) ∷ []) ∷ []);
   },
   Some (fault_at 1 81 kind.Mismatch),
 )

@@ -1,6 +1,5 @@
 -- 14 Mismatch
-use Rattle.std.specs.Prelude.{ℕ, pos, true, false, List, [], ◌∷◌, Option, Some, None}
-use Rattle.cc_base.specs.declared.names.Place.{Place}
+use Rattle.std.specs.Prelude.{pos, List, [], ◌∷◌, Some, None}
 use Rattle.cc_base.specs.declared.numbers.Comparison.TheVariants as comparison
 use Rattle.cc_base.specs.declared.numbers.NumberType.TheVariants as numeric
 use Rattle.cc_base.specs.declared.numbers.Operator.TheVariants as operator
@@ -11,10 +10,7 @@ use Rattle.cc_faults.specs.declared.plain.Item.TheVariants as item
 use Rattle.cc_faults.specs.declared.plain.Length.TheVariants as some_length
 use Rattle.cc_faults.specs.declared.plain.LocalForm.TheVariants as form
 use Rattle.cc_faults.specs.declared.plain.Phrase.TheVariants as phrase
-use Rattle.cc_faults.specs.declared.plain.Plain.{Plain}
 use Rattle.cc_faults.specs.declared.plain.Statement.TheVariants as statement
-use Rattle.cc_faults.specs.declared.plain.Step.TheVariants as step
-use Rattle.cc_faults.specs.declared.plain.StepWord.TheVariants as word
 use Rattle.cc_faults.specs.declared.plain.TypeName.TheVariants as type_name
 use Rattle.types_tests.specs.Seen.{Row, at, fault_at, x}
 
@@ -72,15 +68,15 @@ text3 = (
   record {
     names = 4;
     formats = [];
-    items = (item.Function (type_name.Number numeric.Int) (x 1 1 2) (record {
+    items = (item.Function (type_name.Number numeric.Int) (x 1 1 1) (record {
       of = (type_name.Number numeric.Int);
-      name = (x 1 7 1);
+      name = (x 1 7 2);
     } ∷ []) [] ∷ item.Function (type_name.Number numeric.Int) (x 1 14 0) [] ((statement.Declare (record {
       of = (type_name.Number
           numeric.Int);
       name = (x 1 27 3);
       form = form.Array (some_length.Number (at 1 29) (pos 2));
-    })) ∷ (statement.Evaluate (phrase.Call (x 1 33 2)
+    })) ∷ (statement.Evaluate (phrase.Call (x 1 33 1)
         ((phrase.Name (x 1 35 3)) ∷ []))) ∷ []) ∷ []);
   },
   Some (fault_at 1 35 kind.Mismatch),
@@ -92,13 +88,13 @@ text4 = (
   record {
     names = 3;
     formats = [];
-    items = (item.Specification (x 1 14 2) [] (record {
+    items = (item.Specification (x 1 14 1) [] (record {
       result = (Some (type_name.Number numeric.Int));
       name = (x 1
-          30 1);
+          30 2);
       parameters = [];
-    } ∷ []) ∷ item.Body (x 1 51 2) [] ((statement.Select (at 1 57) (record {
-      guard = (Some (phrase.Create (at 1 67) (x 1 74 2)
+    } ∷ []) ∷ item.Body (x 1 51 1) [] ((statement.Select (at 1 57) (record {
+      guard = (Some (phrase.Create (at 1 67) (x 1 74 1)
           []));
       choice = choice.Terminate;
       entries = [];
@@ -114,12 +110,12 @@ text5 = (
   record {
     names = 5;
     formats = [];
-    items = (item.Specification (x 1 14 3) [] (record {
+    items = (item.Specification (x 1 14 1) [] (record {
       result = None;
-      name = (x 1 32 1);
+      name = (x 1 32 2);
       parameters =
-          ((type_name.Structure (x 1 41 2)) ∷ []);
-    } ∷ []) ∷ item.Body (x 1 63 3) [] [] ∷ item.Structure (x 1 78 2) (record {
+          ((type_name.Structure (x 1 41 3)) ∷ []);
+    } ∷ []) ∷ item.Body (x 1 63 1) [] [] ∷ item.Structure (x 1 78 3) (record {
       of = (type_name.Number
           numeric.Int);
       name = (x 1 86 4);
@@ -136,16 +132,16 @@ text6 = (
   record {
     names = 4;
     formats = [];
-    items = (item.Specification (x 1 14 2) [] (record {
+    items = (item.Specification (x 1 14 1) [] (record {
       result = (Some (type_name.Void (at 1 26)));
       name = (x 1 31
-          1);
-      parameters = ((type_name.Process (x 1 41 2)) ∷ []);
-    } ∷ []) ∷ item.Body (x 1 63 2) [] ((statement.Accept (record {
+          2);
+      parameters = ((type_name.Process (x 1 41 1)) ∷ []);
+    } ∷ []) ∷ item.Body (x 1 63 1) [] ((statement.Accept (record {
       head = record {
         place = (at
             1 69);
-        name = (x 1 76 1);
+        name = (x 1 76 2);
         names = ((x 1 78 3) ∷ []);
         clauses = (record { word = clause_word.SuchThat; expression = (phrase.Name (x 1 91 3)) } ∷
             []);
@@ -162,16 +158,16 @@ text7 = (
   record {
     names = 4;
     formats = [];
-    items = (item.Specification (x 1 14 2) [] (record {
+    items = (item.Specification (x 1 14 1) [] (record {
       result = (Some (type_name.Void (at 1 26)));
       name = (x 1 31
-          1);
-      parameters = ((type_name.Process (x 1 41 2)) ∷ []);
-    } ∷ []) ∷ item.Body (x 1 63 2) [] ((statement.Accept (record {
+          2);
+      parameters = ((type_name.Process (x 1 41 1)) ∷ []);
+    } ∷ []) ∷ item.Body (x 1 63 1) [] ((statement.Accept (record {
       head = record {
         place = (at
             1 69);
-        name = (x 1 76 1);
+        name = (x 1 76 2);
         names = ((x 1 78 3) ∷ []);
         clauses = (record { word = clause_word.By; expression = (phrase.Name (x 1 85 3)) } ∷ []);
       };

@@ -1,20 +1,13 @@
 -- 14 Mismatch
-use Rattle.std.specs.Prelude.{ℕ, pos, true, false, List, [], ◌∷◌, Option, Some, None}
-use Rattle.cc_base.specs.declared.names.Place.{Place}
-use Rattle.cc_base.specs.declared.numbers.Comparison.TheVariants as comparison
+use Rattle.std.specs.Prelude.{pos, List, [], ◌∷◌, Some, None}
 use Rattle.cc_base.specs.declared.numbers.NumberType.TheVariants as numeric
-use Rattle.cc_base.specs.declared.numbers.Operator.TheVariants as operator
 use Rattle.cc_faults.specs.declared.fault.TypeKind.TheVariants as kind
-use Rattle.cc_faults.specs.declared.plain.Choice.TheVariants as choice
-use Rattle.cc_faults.specs.declared.plain.ClauseWord.TheVariants as clause_word
 use Rattle.cc_faults.specs.declared.plain.Item.TheVariants as item
 use Rattle.cc_faults.specs.declared.plain.Length.TheVariants as some_length
 use Rattle.cc_faults.specs.declared.plain.LocalForm.TheVariants as form
 use Rattle.cc_faults.specs.declared.plain.Phrase.TheVariants as phrase
-use Rattle.cc_faults.specs.declared.plain.Plain.{Plain}
 use Rattle.cc_faults.specs.declared.plain.Statement.TheVariants as statement
 use Rattle.cc_faults.specs.declared.plain.Step.TheVariants as step
-use Rattle.cc_faults.specs.declared.plain.StepWord.TheVariants as word
 use Rattle.cc_faults.specs.declared.plain.TypeName.TheVariants as type_name
 use Rattle.types_tests.specs.Seen.{Row, at, fault_at, x}
 
@@ -58,14 +51,14 @@ text2 = (
   record {
     names = 4;
     formats = [];
-    items = (item.Specification (x 1 14 2) [] (record {
+    items = (item.Specification (x 1 14 1) [] (record {
       result = (Some (type_name.Number numeric.Int));
       name = (x 1
-          30 1);
+          30 2);
       parameters = [];
-    } ∷ []) ∷ item.Body (x 1 51 2) [] [] ∷ item.Function (type_name.Number numeric.Int) (x 1 59 0) [] ((statement.Declare
-        (record { of = (type_name.Process (x 1 76 2)); name = (x 1 78 3); form = form.Plain })) ∷ (statement.Evaluate (phrase.Within (at 1 81)
-        (phrase.Name (x 1 88 3)) (phrase.Chain (phrase.Name (x 1 92 3)) (step.Call (x 1 94 1) [] ∷ [])) (phrase.Number (at 1 100) (pos 0) numeric.Int))) ∷
+    } ∷ []) ∷ item.Body (x 1 51 1) [] [] ∷ item.Function (type_name.Number numeric.Int) (x 1 59 0) [] ((statement.Declare
+        (record { of = (type_name.Process (x 1 76 1)); name = (x 1 78 3); form = form.Plain })) ∷ (statement.Evaluate (phrase.Within (at 1 81)
+        (phrase.Name (x 1 88 3)) (phrase.Chain (phrase.Name (x 1 92 3)) (step.Call (x 1 94 2) [] ∷ [])) (phrase.Number (at 1 100) (pos 0) numeric.Int))) ∷
         []) ∷ []);
   },
   Some (fault_at 1 88 kind.Mismatch),
@@ -77,14 +70,14 @@ text3 = (
   record {
     names = 4;
     formats = [];
-    items = (item.Specification (x 1 14 2) [] (record {
+    items = (item.Specification (x 1 14 1) [] (record {
       result = (Some (type_name.Number numeric.Int));
       name = (x 1
-          30 1);
+          30 2);
       parameters = [];
-    } ∷ []) ∷ item.Body (x 1 51 2) [] [] ∷ item.Function (type_name.Number numeric.Int) (x 1 59 0) [] ((statement.Declare
-        (record { of = (type_name.Process (x 1 76 2)); name = (x 1 78 3); form = form.Plain })) ∷ (statement.Evaluate (phrase.Within (at 1 81)
-        (phrase.Number (at 1 88) (pos 1) numeric.Int) (phrase.Chain (phrase.Name (x 1 92 3)) (step.Call (x 1 94 1) [] ∷ [])) (phrase.Name (x 1 100 3)))) ∷
+    } ∷ []) ∷ item.Body (x 1 51 1) [] [] ∷ item.Function (type_name.Number numeric.Int) (x 1 59 0) [] ((statement.Declare
+        (record { of = (type_name.Process (x 1 76 1)); name = (x 1 78 3); form = form.Plain })) ∷ (statement.Evaluate (phrase.Within (at 1 81)
+        (phrase.Number (at 1 88) (pos 1) numeric.Int) (phrase.Chain (phrase.Name (x 1 92 3)) (step.Call (x 1 94 2) [] ∷ [])) (phrase.Name (x 1 100 3)))) ∷
         []) ∷ []);
   },
   Some (fault_at 1 100 kind.Mismatch),
@@ -96,19 +89,19 @@ text4 = (
   record {
     names = 5;
     formats = [];
-    items = (item.Specification (x 1 14 2) [] (record {
+    items = (item.Specification (x 1 14 1) [] (record {
       result = (Some (type_name.Void (at 1 26)));
       name = (x 1 31
-          1);
+          2);
       parameters = [];
-    } ∷ []) ∷ item.Body (x 1 52 2) [] [] ∷ item.Function (type_name.Void (at 1 60)) (x 1 65 3) [] [] ∷ item.Function
+    } ∷ []) ∷ item.Body (x 1 52 1) [] [] ∷ item.Function (type_name.Void (at 1 60)) (x 1 65 3) [] [] ∷ item.Function
         (type_name.Number numeric.Int) (x 1 73 0) [] ((statement.Declare (record {
-          of = (type_name.Process (x 1 90 2));
+          of = (type_name.Process (x 1 90 1));
           name = (x 1 92 4);
           form =
               form.Plain;
         })) ∷ (statement.Evaluate (phrase.Within (at 1 95) (phrase.Number (at 1 102) (pos 1) numeric.Int) (phrase.Chain (phrase.Name (x 1 106
-        4)) (step.Call (x 1 108 1) [] ∷ [])) (phrase.Call (x 1 114 3) []))) ∷ []) ∷ []);
+        4)) (step.Call (x 1 108 2) [] ∷ [])) (phrase.Call (x 1 114 3) []))) ∷ []) ∷ []);
   },
   Some (fault_at 1 114 kind.Mismatch),
 )
@@ -120,13 +113,13 @@ text5 = (
     names = 6;
     formats = [];
     items = (item.Function (type_name.Void (at 1 1)) (x 1 6 1) [] [] ∷ item.Function (type_name.Number numeric.Int)
-        (x 1 14 3) (record { of = (type_name.Number numeric.Int); name = (x 1 20 2) } ∷ []) [] ∷ item.Function (type_name.Number numeric.Int) (x 1 27 0)
+        (x 1 14 2) (record { of = (type_name.Number numeric.Int); name = (x 1 20 3) } ∷ []) [] ∷ item.Function (type_name.Number numeric.Int) (x 1 27 0)
         [] ((statement.Declare (record {
           of = (type_name.Number numeric.Int);
           name = (x 1 40 4);
           form = form.Array (some_length.Number (at 1 42) (pos 2));
         })) ∷ (statement.Evaluate (phrase.Call (x 1 46 5) ((phrase.Name (x 1 48 4)) ∷ []))) ∷ []) ∷ item.Function (type_name.Number numeric.Int) (x 1 54
-        5) (record { of = (type_name.Void (at 1 56)); name = (x 1 61 2) } ∷ []) [] ∷ []);
+        5) (record { of = (type_name.Void (at 1 56)); name = (x 1 61 3) } ∷ []) [] ∷ []);
   },
   Some (fault_at 1 48 kind.Mismatch),
 )
@@ -150,14 +143,14 @@ text7 = (
   record {
     names = 4;
     formats = [];
-    items = (item.Specification (x 1 14 2) [] (record {
+    items = (item.Specification (x 1 14 1) [] (record {
       result = (Some (type_name.Void (at 1 26)));
       name = (x 1 31
-          1);
+          2);
       parameters = [];
-    } ∷ []) ∷ item.Body (x 1 52 2) [] [] ∷ item.Function (type_name.Number numeric.Int) (x 1 60 0) [] ((statement.Declare (record
-        { of = (type_name.Process (x 1 77 2)); name = (x 1 79 3); form = form.Plain })) ∷ (statement.Evaluate (phrase.Within (at 1 82) (phrase.Number (at
-        1 89) (pos 1) numeric.Int) (phrase.Chain (phrase.Name (x 1 93 3)) (step.Call (x 1 95 1) [] ∷ [])) (phrase.Number (at 1 101) (pos 1) numeric.Int)))
+    } ∷ []) ∷ item.Body (x 1 52 1) [] [] ∷ item.Function (type_name.Number numeric.Int) (x 1 60 0) [] ((statement.Declare (record
+        { of = (type_name.Process (x 1 77 1)); name = (x 1 79 3); form = form.Plain })) ∷ (statement.Evaluate (phrase.Within (at 1 82) (phrase.Number (at
+        1 89) (pos 1) numeric.Int) (phrase.Chain (phrase.Name (x 1 93 3)) (step.Call (x 1 95 2) [] ∷ [])) (phrase.Number (at 1 101) (pos 1) numeric.Int)))
         ∷ []) ∷ []);
   },
   Some (fault_at 1 101 kind.Mismatch),

@@ -1,20 +1,15 @@
 -- 15 NotAPlace
-use Rattle.std.specs.Prelude.{ℕ, pos, true, false, List, [], ◌∷◌, Option, Some, None}
-use Rattle.cc_base.specs.declared.names.Place.{Place}
-use Rattle.cc_base.specs.declared.numbers.Comparison.TheVariants as comparison
+use Rattle.std.specs.Prelude.{pos, List, [], ◌∷◌, Some, None}
 use Rattle.cc_base.specs.declared.numbers.NumberType.TheVariants as numeric
 use Rattle.cc_base.specs.declared.numbers.Operator.TheVariants as operator
 use Rattle.cc_faults.specs.declared.fault.TypeKind.TheVariants as kind
-use Rattle.cc_faults.specs.declared.plain.Choice.TheVariants as choice
-use Rattle.cc_faults.specs.declared.plain.ClauseWord.TheVariants as clause_word
 use Rattle.cc_faults.specs.declared.plain.Item.TheVariants as item
 use Rattle.cc_faults.specs.declared.plain.Length.TheVariants as some_length
 use Rattle.cc_faults.specs.declared.plain.LocalForm.TheVariants as form
 use Rattle.cc_faults.specs.declared.plain.Phrase.TheVariants as phrase
-use Rattle.cc_faults.specs.declared.plain.Plain.{Plain}
 use Rattle.cc_faults.specs.declared.plain.Statement.TheVariants as statement
 use Rattle.cc_faults.specs.declared.plain.Step.TheVariants as step
-use Rattle.cc_faults.specs.declared.plain.StepWord.TheVariants as word
+use Rattle.cc_faults.specs.declared.plain.StepWord.TheVariants as step_word
 use Rattle.cc_faults.specs.declared.plain.TypeName.TheVariants as type_name
 use Rattle.types_tests.specs.Seen.{Row, at, fault_at, x}
 
@@ -42,7 +37,7 @@ text1 = (
       name = (x 1 14 1);
       form = form.Plain;
     })) ∷ (statement.Evaluate (phrase.Assign (phrase.StepAfter (phrase.Name (x 1
-        17 1)) word.Up) (phrase.Number (at 1 23) (pos 1) numeric.Int))) ∷ []) ∷ []);
+        17 1)) step_word.Up) (phrase.Number (at 1 23) (pos 1) numeric.Int))) ∷ []) ∷ []);
   },
   Some (fault_at 1 17 kind.NotAPlace),
 )
@@ -75,7 +70,7 @@ text3 = (
           (type_name.Number numeric.Int);
       name = (x 1 14 1);
       form = form.Plain;
-    })) ∷ (statement.Evaluate (phrase.StepBefore (at 1 17) word.Up
+    })) ∷ (statement.Evaluate (phrase.StepBefore (at 1 17) step_word.Up
         (phrase.Parenthesized (at 1 19) (phrase.Arithmetic (phrase.Name (x 1 20 1)) (record {
           operator = operator.Add;
           operand = (phrase.Number (at 1 24)
@@ -114,7 +109,7 @@ text5 = (
     names = 2;
     formats = [];
     items = (item.Enumeration None (record { name = (x 1 8 1); value = None } ∷ []) ∷ item.Function
-        (type_name.Number numeric.Int) (x 1 13 0) [] ((statement.Evaluate (phrase.StepAfter (phrase.Name (x 1 22 1)) word.Up)) ∷ []) ∷ []);
+        (type_name.Number numeric.Int) (x 1 13 0) [] ((statement.Evaluate (phrase.StepAfter (phrase.Name (x 1 22 1)) step_word.Up)) ∷ []) ∷ []);
   },
   Some
       (fault_at 1 22 kind.NotAPlace),
@@ -183,9 +178,9 @@ text8 = (
     })) ∷ (statement.Evaluate
         (phrase.StepAfter (phrase.Chain (phrase.Parenthesized (at 1 49) (phrase.Chain (phrase.Parenthesized (at 1 50) (phrase.Chain (phrase.Parenthesized
         (at 1 51) (phrase.Name (x 1 52 3))) (step.Index (phrase.Number (at 1 55) (pos 1) numeric.Int) ∷ []))) (step.Field (x 1 59 2) ∷ []))) (step.Index
-        (phrase.Number (at 1 62) (pos 0) numeric.Int) ∷ [])) word.Up)) ∷ (statement.Evaluate (phrase.StepBefore (at 1 68) word.Down (phrase.Parenthesized
-        (at 1 70) (phrase.Chain (phrase.Name (x 1 71 3)) (step.Index (phrase.Number (at 1 73) (pos 0) numeric.Int) ∷ step.Field (x 1 76 2) ∷ step.Index
-        (phrase.Number (at 1 78) (pos 1) numeric.Int) ∷ []))))) ∷ []) ∷ []);
+        (phrase.Number (at 1 62) (pos 0) numeric.Int) ∷ [])) step_word.Up)) ∷ (statement.Evaluate (phrase.StepBefore (at 1 68) step_word.Down
+        (phrase.Parenthesized (at 1 70) (phrase.Chain (phrase.Name (x 1 71 3)) (step.Index (phrase.Number (at 1 73) (pos 0) numeric.Int) ∷ step.Field (x 1
+        76 2) ∷ step.Index (phrase.Number (at 1 78) (pos 1) numeric.Int) ∷ []))))) ∷ []) ∷ []);
   },
   None,
 )
@@ -211,7 +206,7 @@ text10 = (
     formats = [];
     items = (item.Function (type_name.Number numeric.Int) (x 1 1 0) [] ((statement.Evaluate (phrase.Assign
         (phrase.Name (x 1 10 1)) (phrase.Number (at 1 14) (pos 1) numeric.Int))) ∷ (statement.Evaluate (phrase.StepAfter (phrase.Name (x 1 17 1))
-        word.Up)) ∷ []) ∷ []);
+        step_word.Up)) ∷ []) ∷ []);
   },
   Some (fault_at 1 10 kind.UnknownName),
 )

@@ -1,20 +1,13 @@
 -- 19 UnknownTransaction
-use Rattle.std.specs.Prelude.{ℕ, pos, true, false, List, [], ◌∷◌, Option, Some, None}
-use Rattle.cc_base.specs.declared.names.Place.{Place}
-use Rattle.cc_base.specs.declared.numbers.Comparison.TheVariants as comparison
+use Rattle.std.specs.Prelude.{List, [], ◌∷◌, Some, None}
 use Rattle.cc_base.specs.declared.numbers.NumberType.TheVariants as numeric
-use Rattle.cc_base.specs.declared.numbers.Operator.TheVariants as operator
 use Rattle.cc_faults.specs.declared.fault.TypeKind.TheVariants as kind
 use Rattle.cc_faults.specs.declared.plain.Choice.TheVariants as choice
-use Rattle.cc_faults.specs.declared.plain.ClauseWord.TheVariants as clause_word
 use Rattle.cc_faults.specs.declared.plain.Item.TheVariants as item
-use Rattle.cc_faults.specs.declared.plain.Length.TheVariants as some_length
 use Rattle.cc_faults.specs.declared.plain.LocalForm.TheVariants as form
 use Rattle.cc_faults.specs.declared.plain.Phrase.TheVariants as phrase
-use Rattle.cc_faults.specs.declared.plain.Plain.{Plain}
 use Rattle.cc_faults.specs.declared.plain.Statement.TheVariants as statement
 use Rattle.cc_faults.specs.declared.plain.Step.TheVariants as step
-use Rattle.cc_faults.specs.declared.plain.StepWord.TheVariants as word
 use Rattle.cc_faults.specs.declared.plain.TypeName.TheVariants as type_name
 use Rattle.types_tests.specs.Seen.{Row, at, fault_at, x}
 
@@ -38,12 +31,12 @@ text1 = (
   record {
     names = 6;
     formats = [];
-    items = (item.Specification (x 1 14 2) [] (record {
+    items = (item.Specification (x 1 14 1) [] (record {
       result = (Some (type_name.Void (at 1 26)));
       name = (x 1 31
-          1);
+          2);
       parameters = [];
-    } ∷ []) ∷ item.Body (x 1 52 2) [] ((statement.Accept (record {
+    } ∷ []) ∷ item.Body (x 1 52 1) [] ((statement.Accept (record {
       head = record {
         place = (at 1 58);
         name = (x 1 65 3);
@@ -82,16 +75,16 @@ text3 = (
   record {
     names = 4;
     formats = [];
-    items = (item.Specification (x 1 14 2) [] (record {
+    items = (item.Specification (x 1 14 1) [] (record {
       result = (Some (type_name.Void (at 1 26)));
       name = (x 1 31
-          1);
+          2);
       parameters = [];
-    } ∷ []) ∷ item.Specification (x 1 52 3) [] [] ∷ item.Body (x 1 70 2) [] [] ∷ item.Body (x 1 91 3) [] ((statement.Select (at 1
+    } ∷ []) ∷ item.Specification (x 1 52 3) [] [] ∷ item.Body (x 1 70 1) [] [] ∷ item.Body (x 1 91 3) [] ((statement.Select (at 1
         97) (record {
           guard = None;
           choice = (choice.Accept (record {
-            head = record { place = (at 1 106); name = (x 1 113 1); names = []; clauses = [] };
+            head = record { place = (at 1 106); name = (x 1 113 2); names = []; clauses = [] };
             block = [];
           }));
           entries = [];

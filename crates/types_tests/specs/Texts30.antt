@@ -1,20 +1,11 @@
 -- 23 LeavesAccept
-use Rattle.std.specs.Prelude.{ℕ, pos, true, false, List, [], ◌∷◌, Option, Some, None}
-use Rattle.cc_base.specs.declared.names.Place.{Place}
-use Rattle.cc_base.specs.declared.numbers.Comparison.TheVariants as comparison
+use Rattle.std.specs.Prelude.{pos, List, [], ◌∷◌, Some, None}
 use Rattle.cc_base.specs.declared.numbers.NumberType.TheVariants as numeric
-use Rattle.cc_base.specs.declared.numbers.Operator.TheVariants as operator
 use Rattle.cc_faults.specs.declared.fault.TypeKind.TheVariants as kind
 use Rattle.cc_faults.specs.declared.plain.Choice.TheVariants as choice
-use Rattle.cc_faults.specs.declared.plain.ClauseWord.TheVariants as clause_word
 use Rattle.cc_faults.specs.declared.plain.Item.TheVariants as item
-use Rattle.cc_faults.specs.declared.plain.Length.TheVariants as some_length
-use Rattle.cc_faults.specs.declared.plain.LocalForm.TheVariants as form
 use Rattle.cc_faults.specs.declared.plain.Phrase.TheVariants as phrase
-use Rattle.cc_faults.specs.declared.plain.Plain.{Plain}
 use Rattle.cc_faults.specs.declared.plain.Statement.TheVariants as statement
-use Rattle.cc_faults.specs.declared.plain.Step.TheVariants as step
-use Rattle.cc_faults.specs.declared.plain.StepWord.TheVariants as word
 use Rattle.cc_faults.specs.declared.plain.TypeName.TheVariants as type_name
 use Rattle.types_tests.specs.Seen.{Row, at, fault_at, x}
 
@@ -24,15 +15,15 @@ text0 = (
   record {
     names = 3;
     formats = [];
-    items = (item.Specification (x 1 14 2) [] (record {
+    items = (item.Specification (x 1 14 1) [] (record {
       result = (Some (type_name.Void (at 1 26)));
       name = (x 1 31
-          1);
+          2);
       parameters = [];
-    } ∷ []) ∷ item.Body (x 1 52 2) [] ((statement.Accept (record {
+    } ∷ []) ∷ item.Body (x 1 52 1) [] ((statement.Accept (record {
       head = record {
         place = (at 1 58);
-        name = (x 1 65 1);
+        name = (x 1 65 2);
         names =
             [];
         clauses = [];
@@ -50,13 +41,13 @@ text1 = (
   record {
     names = 3;
     formats = [];
-    items = (item.Specification (x 1 14 2) [] (record {
+    items = (item.Specification (x 1 14 1) [] (record {
       result = (Some (type_name.Void (at 1 26)));
       name = (x 1 31
-          1);
+          2);
       parameters = [];
-    } ∷ []) ∷ item.Body (x 1 52 2) [] ((statement.While (phrase.Number (at 1 65) (pos 1) numeric.Int) (statement.Accept (record {
-      head = record { place = (at 1 68); name = (x 1 75 1); names = []; clauses = [] };
+    } ∷ []) ∷ item.Body (x 1 52 1) [] ((statement.While (phrase.Number (at 1 65) (pos 1) numeric.Int) (statement.Accept (record {
+      head = record { place = (at 1 68); name = (x 1 75 2); names = []; clauses = [] };
       block = ((statement.Break (at 1 81)) ∷ []);
     }))) ∷ []) ∷
         item.Function (type_name.Number numeric.Int) (x 1 92 0) [] [] ∷ []);
@@ -70,16 +61,16 @@ text2 = (
   record {
     names = 3;
     formats = [];
-    items = (item.Specification (x 1 14 2) [] (record {
+    items = (item.Specification (x 1 14 1) [] (record {
       result = (Some (type_name.Void (at 1 26)));
       name = (x 1 31
-          1);
+          2);
       parameters = [];
-    } ∷ []) ∷ item.Body (x 1 52 2) [] ((statement.DoWhile (statement.Block ((statement.Accept (record {
+    } ∷ []) ∷ item.Body (x 1 52 1) [] ((statement.DoWhile (statement.Block ((statement.Accept (record {
       head = record {
         place =
             (at 1 63);
-        name = (x 1 70 1);
+        name = (x 1 70 2);
         names = [];
         clauses = [];
       };
@@ -97,15 +88,15 @@ text3 = (
   record {
     names = 3;
     formats = [];
-    items = (item.Specification (x 1 14 2) [] (record {
+    items = (item.Specification (x 1 14 1) [] (record {
       result = (Some (type_name.Void (at 1 26)));
       name = (x 1 31
-          1);
+          2);
       parameters = [];
-    } ∷ []) ∷ item.Body (x 1 52 2) [] ((statement.Accept (record {
+    } ∷ []) ∷ item.Body (x 1 52 1) [] ((statement.Accept (record {
       head = record {
         place = (at 1 58);
-        name = (x 1 65 1);
+        name = (x 1 65 2);
         names =
             [];
         clauses = [];
@@ -116,7 +107,7 @@ text3 = (
         (record {
           guard = None;
           choice = (choice.Accept (record {
-            head = record { place = (at 1 123); name = (x 1 130 1); names = []; clauses = [] };
+            head = record { place = (at 1 123); name = (x 1 130 2); names = []; clauses = [] };
             block = [];
           }));
           entries = ((statement.Break (at 1 135)) ∷ []);
@@ -132,19 +123,19 @@ text4 = (
   record {
     names = 4;
     formats = [];
-    items = (item.Specification (x 1 14 3) [] (record {
+    items = (item.Specification (x 1 14 1) [] (record {
       result = (Some (type_name.Void (at 1 26)));
       name = (x 1 31
-          1);
+          2);
       parameters = [];
-    } ∷ record { result = (Some (type_name.Void (at 1 42))); name = (x 1 47 2); parameters = [] } ∷ []) ∷ item.Body (x 1 68 3) []
+    } ∷ record { result = (Some (type_name.Void (at 1 42))); name = (x 1 47 3); parameters = [] } ∷ []) ∷ item.Body (x 1 68 1) []
         ((statement.Accept (record {
-          head = record { place = (at 1 74); name = (x 1 81 1); names = []; clauses = [] };
+          head = record { place = (at 1 74); name = (x 1 81 2); names = []; clauses = [] };
           block = ((statement.While
               (phrase.Number (at 1 94) (pos 1) numeric.Int) (statement.Accept (record {
                 head = record {
                   place = (at 1 97);
-                  name = (x 1 104 2);
+                  name = (x 1 104 3);
                   names = [];
                   clauses = [];
                 };

@@ -1,20 +1,10 @@
 -- 24 ValueHere
-use Rattle.std.specs.Prelude.{ℕ, pos, true, false, List, [], ◌∷◌, Option, Some, None}
-use Rattle.cc_base.specs.declared.names.Place.{Place}
-use Rattle.cc_base.specs.declared.numbers.Comparison.TheVariants as comparison
+use Rattle.std.specs.Prelude.{pos, List, [], ◌∷◌, Some, None}
 use Rattle.cc_base.specs.declared.numbers.NumberType.TheVariants as numeric
-use Rattle.cc_base.specs.declared.numbers.Operator.TheVariants as operator
 use Rattle.cc_faults.specs.declared.fault.TypeKind.TheVariants as kind
-use Rattle.cc_faults.specs.declared.plain.Choice.TheVariants as choice
-use Rattle.cc_faults.specs.declared.plain.ClauseWord.TheVariants as clause_word
 use Rattle.cc_faults.specs.declared.plain.Item.TheVariants as item
-use Rattle.cc_faults.specs.declared.plain.Length.TheVariants as some_length
-use Rattle.cc_faults.specs.declared.plain.LocalForm.TheVariants as form
 use Rattle.cc_faults.specs.declared.plain.Phrase.TheVariants as phrase
-use Rattle.cc_faults.specs.declared.plain.Plain.{Plain}
 use Rattle.cc_faults.specs.declared.plain.Statement.TheVariants as statement
-use Rattle.cc_faults.specs.declared.plain.Step.TheVariants as step
-use Rattle.cc_faults.specs.declared.plain.StepWord.TheVariants as word
 use Rattle.cc_faults.specs.declared.plain.TypeName.TheVariants as type_name
 use Rattle.types_tests.specs.Seen.{Row, at, fault_at, x}
 
@@ -62,15 +52,15 @@ text3 = (
   record {
     names = 3;
     formats = [];
-    items = (item.Specification (x 1 14 2) [] (record {
+    items = (item.Specification (x 1 14 1) [] (record {
       result = (Some (type_name.Void (at 1 26)));
       name = (x 1 31
-          1);
+          2);
       parameters = [];
-    } ∷ []) ∷ item.Body (x 1 52 2) [] ((statement.Accept (record {
+    } ∷ []) ∷ item.Body (x 1 52 1) [] ((statement.Accept (record {
       head = record {
         place = (at 1 58);
-        name = (x 1 65 1);
+        name = (x 1 65 2);
         names =
             [];
         clauses = [];
@@ -88,9 +78,9 @@ text4 = (
   record {
     names = 3;
     formats = [];
-    items = (item.Specification (x 1 14 2) [] (record { result = None; name = (x 1 32 1); parameters = [] } ∷ []) ∷
-        item.Body (x 1 53 2) [] ((statement.Accept (record {
-          head = record { place = (at 1 59); name = (x 1 66 1); names = []; clauses = [] };
+    items = (item.Specification (x 1 14 1) [] (record { result = None; name = (x 1 32 2); parameters = [] } ∷ []) ∷
+        item.Body (x 1 53 1) [] ((statement.Accept (record {
+          head = record { place = (at 1 59); name = (x 1 66 2); names = []; clauses = [] };
           block =
               ((statement.TransactionReturn (at 1 72) (Some (phrase.Number (at 1 80) (pos 0) numeric.Int))) ∷ []);
         })) ∷ []) ∷ item.Function (type_name.Number

@@ -1,20 +1,17 @@
 -- 25 NotPure
-use Rattle.std.specs.Prelude.{ℕ, pos, true, false, List, [], ◌∷◌, Option, Some, None}
-use Rattle.cc_base.specs.declared.names.Place.{Place}
+use Rattle.std.specs.Prelude.{pos, List, [], ◌∷◌, Some, None}
 use Rattle.cc_base.specs.declared.numbers.Comparison.TheVariants as comparison
 use Rattle.cc_base.specs.declared.numbers.NumberType.TheVariants as numeric
 use Rattle.cc_base.specs.declared.numbers.Operator.TheVariants as operator
 use Rattle.cc_faults.specs.declared.fault.TypeKind.TheVariants as kind
-use Rattle.cc_faults.specs.declared.plain.Choice.TheVariants as choice
 use Rattle.cc_faults.specs.declared.plain.ClauseWord.TheVariants as clause_word
 use Rattle.cc_faults.specs.declared.plain.Item.TheVariants as item
 use Rattle.cc_faults.specs.declared.plain.Length.TheVariants as some_length
 use Rattle.cc_faults.specs.declared.plain.LocalForm.TheVariants as form
 use Rattle.cc_faults.specs.declared.plain.Phrase.TheVariants as phrase
-use Rattle.cc_faults.specs.declared.plain.Plain.{Plain}
 use Rattle.cc_faults.specs.declared.plain.Statement.TheVariants as statement
 use Rattle.cc_faults.specs.declared.plain.Step.TheVariants as step
-use Rattle.cc_faults.specs.declared.plain.StepWord.TheVariants as word
+use Rattle.cc_faults.specs.declared.plain.StepWord.TheVariants as step_word
 use Rattle.cc_faults.specs.declared.plain.TypeName.TheVariants as type_name
 use Rattle.types_tests.specs.Seen.{Row, at, fault_at, x}
 
@@ -24,12 +21,12 @@ text0 = (
   record {
     names = 5;
     formats = [];
-    items = (item.Function (type_name.Number numeric.Int) (x 1 1 1) [] [] ∷ item.Specification (x 1 22 3) []
-        (record { result = (Some (type_name.Void (at 1 34))); name = (x 1 39 2); parameters = ((type_name.Number numeric.Int) ∷ []) } ∷ []) ∷ item.Body (x
-        1 65 3) [] ((statement.Accept (record {
+    items = (item.Function (type_name.Number numeric.Int) (x 1 1 1) [] [] ∷ item.Specification (x 1 22 2) []
+        (record { result = (Some (type_name.Void (at 1 34))); name = (x 1 39 3); parameters = ((type_name.Number numeric.Int) ∷ []) } ∷ []) ∷ item.Body (x
+        1 65 2) [] ((statement.Accept (record {
           head = record {
             place = (at 1 71);
-            name = (x 1 78 2);
+            name = (x 1 78 3);
             names = ((x 1 80 4) ∷ []);
             clauses = (record {
               word
@@ -50,16 +47,16 @@ text1 = (
   record {
     names = 4;
     formats = [];
-    items = (item.Specification (x 1 14 2) [] (record {
+    items = (item.Specification (x 1 14 1) [] (record {
       result = (Some (type_name.Void (at 1 26)));
       name = (x 1 31
-          1);
+          2);
       parameters = ((type_name.Number numeric.Int) ∷ []);
-    } ∷ []) ∷ item.Body (x 1 57 2) [] ((statement.Accept (record {
+    } ∷ []) ∷ item.Body (x 1 57 1) [] ((statement.Accept (record {
       head = record {
         place = (at
             1 63);
-        name = (x 1 70 1);
+        name = (x 1 70 2);
         names = ((x 1 72 3) ∷ []);
         clauses = (record {
           word = clause_word.By;
@@ -80,16 +77,16 @@ text2 = (
   record {
     names = 4;
     formats = [];
-    items = (item.Specification (x 1 14 2) [] (record {
+    items = (item.Specification (x 1 14 1) [] (record {
       result = (Some (type_name.Void (at 1 26)));
       name = (x 1 31
-          1);
+          2);
       parameters = ((type_name.Number numeric.Int) ∷ []);
-    } ∷ []) ∷ item.Body (x 1 57 2) [] ((statement.Accept (record {
+    } ∷ []) ∷ item.Body (x 1 57 1) [] ((statement.Accept (record {
       head = record {
         place = (at
             1 63);
-        name = (x 1 70 1);
+        name = (x 1 70 2);
         names = ((x 1 72 3) ∷ []);
         clauses = (record {
           word = clause_word.SuchThat;
@@ -110,28 +107,27 @@ text3 = (
   record {
     names = 4;
     formats = [];
-    items = (item.Specification (x 1 14 2) [] (record {
+    items = (item.Specification (x 1 14 1) [] (record {
       result = (Some (type_name.Void (at 1 26)));
       name = (x 1 31
-          1);
+          2);
       parameters = ((type_name.Number numeric.Int) ∷ []);
-    } ∷ []) ∷ item.Body (x 1 57 2) [] ((statement.Accept (record {
+    } ∷ []) ∷ item.Body (x 1 57 1) [] ((statement.Accept (record {
       head = record {
         place = (at
             1 63);
-        name = (x 1 70 1);
+        name = (x 1 70 2);
         names = ((x 1 72 3) ∷ []);
         clauses = (record {
           word = clause_word.SuchThat;
           expression = (phrase.StepBefore (at 1 85)
-              word.Up (phrase.Name (x 1 87 3)));
+              step_word.Up (phrase.Name (x 1 87 3)));
         } ∷ []);
       };
       block = [];
     })) ∷ []) ∷ item.Function (type_name.Number numeric.Int) (x 1 93 0) [] [] ∷ []);
   },
-  Some
-      (fault_at 1 85 kind.NotPure),
+  Some (fault_at 1 85 kind.NotPure),
 )
 
 -- process spec p() { trans void t(process p q); }; process body p() { accept t(q) suchthat (q == f()); } f() { } main() { }
@@ -140,16 +136,16 @@ text4 = (
   record {
     names = 5;
     formats = [];
-    items = (item.Specification (x 1 14 2) [] (record {
+    items = (item.Specification (x 1 14 1) [] (record {
       result = (Some (type_name.Void (at 1 26)));
       name = (x 1 31
-          1);
-      parameters = ((type_name.Process (x 1 41 2)) ∷ []);
-    } ∷ []) ∷ item.Body (x 1 63 2) [] ((statement.Accept (record {
+          2);
+      parameters = ((type_name.Process (x 1 41 1)) ∷ []);
+    } ∷ []) ∷ item.Body (x 1 63 1) [] ((statement.Accept (record {
       head = record {
         place = (at
             1 69);
-        name = (x 1 76 1);
+        name = (x 1 76 2);
         names = ((x 1 78 3) ∷ []);
         clauses = (record {
           word = clause_word.SuchThat;
@@ -171,21 +167,21 @@ text5 = (
   record {
     names = 4;
     formats = [];
-    items = (item.Specification (x 1 14 2) [] (record {
+    items = (item.Specification (x 1 14 1) [] (record {
       result = (Some (type_name.Void (at 1 26)));
       name = (x 1 31
-          1);
+          2);
       parameters = ((type_name.Number numeric.Int) ∷ []);
-    } ∷ []) ∷ item.Body (x 1 57 2) [] ((statement.Accept (record {
+    } ∷ []) ∷ item.Body (x 1 57 1) [] ((statement.Accept (record {
       head = record {
         place = (at
             1 63);
-        name = (x 1 70 1);
+        name = (x 1 70 2);
         names = ((x 1 72 3) ∷ []);
         clauses = (record {
           word = clause_word.SuchThat;
           expression = (phrase.Create (at 1 85) (x 1
-              92 2) []);
+              92 1) []);
         } ∷ []);
       };
       block = [];
@@ -201,21 +197,21 @@ text6 = (
   record {
     names = 4;
     formats = [];
-    items = (item.Specification (x 1 14 2) [] (record {
+    items = (item.Specification (x 1 14 1) [] (record {
       result = (Some (type_name.Number numeric.Int));
       name = (x 1
-          30 1);
-      parameters = ((type_name.Process (x 1 40 2)) ∷ []);
-    } ∷ []) ∷ item.Body (x 1 62 2) [] ((statement.Accept (record {
+          30 2);
+      parameters = ((type_name.Process (x 1 40 1)) ∷ []);
+    } ∷ []) ∷ item.Body (x 1 62 1) [] ((statement.Accept (record {
       head = record {
         place =
             (at 1 68);
-        name = (x 1 75 1);
+        name = (x 1 75 2);
         names = ((x 1 77 3) ∷ []);
         clauses = (record {
           word = clause_word.SuchThat;
           expression = (phrase.Chain (phrase.Name
-              (x 1 90 3)) (step.Call (x 1 92 1) ((phrase.Name (x 1 94 3)) ∷ []) ∷ []));
+              (x 1 90 3)) (step.Call (x 1 92 2) ((phrase.Name (x 1 94 3)) ∷ []) ∷ []));
         } ∷ []);
       };
       block = [];
@@ -231,21 +227,21 @@ text7 = (
   record {
     names = 5;
     formats = [];
-    items = (item.Specification (x 1 14 2) [] (record {
+    items = (item.Specification (x 1 14 1) [] (record {
       result = (Some (type_name.Number numeric.Int));
       name = (x 1
-          30 1);
-      parameters = ((type_name.Process (x 1 40 2)) ∷ []);
-    } ∷ []) ∷ item.Body (x 1 62 2) [] ((statement.Accept (record {
+          30 2);
+      parameters = ((type_name.Process (x 1 40 1)) ∷ []);
+    } ∷ []) ∷ item.Body (x 1 62 1) [] ((statement.Accept (record {
       head = record {
         place =
             (at 1 68);
-        name = (x 1 75 1);
+        name = (x 1 75 2);
         names = ((x 1 77 3) ∷ []);
         clauses = (record {
           word = clause_word.SuchThat;
           expression = (phrase.Chain (phrase.Name
-              (x 1 90 3)) (step.Call (x 1 92 1) ((phrase.Name (x 1 94 3)) ∷ []) ∷ step.Field (x 1 97 4) ∷ []));
+              (x 1 90 3)) (step.Call (x 1 92 2) ((phrase.Name (x 1 94 3)) ∷ []) ∷ step.Field (x 1 97 4) ∷ []));
         } ∷ []);
       };
       block = [];
@@ -266,16 +262,16 @@ text8 = (
       name = (x 1 16 2);
       length =
           None;
-    } ∷ []) ∷ item.Specification (x 1 35 4) [] (record {
+    } ∷ []) ∷ item.Specification (x 1 35 3) [] (record {
       result = (Some (type_name.Void (at 1 47)));
-      name = (x 1 52 3);
+      name = (x 1 52 4);
       parameters =
           ((type_name.Structure (x 1 61 1)) ∷ []);
-    } ∷ []) ∷ item.Body (x 1 83 4) [] ((statement.Accept (record {
+    } ∷ []) ∷ item.Body (x 1 83 3) [] ((statement.Accept (record {
       head = record {
         place = (at 1 89);
         name =
-            (x 1 96 3);
+            (x 1 96 4);
         names = ((x 1 98 5) ∷ []);
         clauses = (record {
           word = clause_word.By;
@@ -300,11 +296,11 @@ text9 = (
       name = (x 1 16 2);
       length =
           (Some (some_length.Number (at 1 18) (pos 3)));
-    } ∷ []) ∷ item.Specification (x 1 38 4) [] (record {
+    } ∷ []) ∷ item.Specification (x 1 38 3) [] (record {
       result = (Some (type_name.Void (at 1 50)));
-      name = (x 1 55 3);
+      name = (x 1 55 4);
       parameters = ((type_name.Structure (x 1 64 1)) ∷ []);
-    } ∷ []) ∷ item.Body (x 1 86 4) [] ((statement.Declare (record {
+    } ∷ []) ∷ item.Body (x 1 86 3) [] ((statement.Declare (record {
       of =
           (type_name.Structure (x 1 99 1));
       name = (x 1 101 5);
@@ -313,7 +309,7 @@ text9 = (
       head = record {
         place = (at 1 104);
         name
-            = (x 1 111 3);
+            = (x 1 111 4);
         names = ((x 1 113 6) ∷ []);
         clauses = (record {
           word = clause_word.SuchThat;
@@ -351,15 +347,15 @@ text10 = (
   record {
     names = 4;
     formats = ([] ∷ []);
-    items = (item.Specification (x 1 14 2) [] (record {
+    items = (item.Specification (x 1 14 1) [] (record {
       result = (Some (type_name.Void (at 1 26)));
       name =
-          (x 1 31 1);
+          (x 1 31 2);
       parameters = ((type_name.Number numeric.Int) ∷ []);
-    } ∷ []) ∷ item.Body (x 1 57 2) [] ((statement.Accept (record {
+    } ∷ []) ∷ item.Body (x 1 57 1) [] ((statement.Accept (record {
       head = record {
         place = (at 1 63);
-        name = (x 1 70 1);
+        name = (x 1 70 2);
         names = ((x 1 72 3) ∷ []);
         clauses = (record {
           word = clause_word.SuchThat;
@@ -391,16 +387,16 @@ text11 = (
       name = (x 1 16 2);
       length =
           None;
-    } ∷ []) ∷ item.Specification (x 1 35 4) [] (record {
+    } ∷ []) ∷ item.Specification (x 1 35 3) [] (record {
       result = (Some (type_name.Void (at 1 47)));
-      name = (x 1 52 3);
+      name = (x 1 52 4);
       parameters =
           ((type_name.Structure (x 1 61 1)) ∷ []);
-    } ∷ []) ∷ item.Body (x 1 83 4) [] ((statement.Accept (record {
+    } ∷ []) ∷ item.Body (x 1 83 3) [] ((statement.Accept (record {
       head = record {
         place = (at 1 89);
         name =
-            (x 1 96 3);
+            (x 1 96 4);
         names = ((x 1 98 5) ∷ []);
         clauses = (record {
           word = clause_word.By;

@@ -1,20 +1,14 @@
 -- two rows at one token: the one of the lower number
-use Rattle.std.specs.Prelude.{ℕ, pos, true, false, List, [], ◌∷◌, Option, Some, None}
-use Rattle.cc_base.specs.declared.names.Place.{Place}
-use Rattle.cc_base.specs.declared.numbers.Comparison.TheVariants as comparison
+use Rattle.std.specs.Prelude.{pos, List, [], ◌∷◌, Some, None}
 use Rattle.cc_base.specs.declared.numbers.NumberType.TheVariants as numeric
 use Rattle.cc_base.specs.declared.numbers.Operator.TheVariants as operator
 use Rattle.cc_faults.specs.declared.fault.TypeKind.TheVariants as kind
-use Rattle.cc_faults.specs.declared.plain.Choice.TheVariants as choice
 use Rattle.cc_faults.specs.declared.plain.ClauseWord.TheVariants as clause_word
 use Rattle.cc_faults.specs.declared.plain.Item.TheVariants as item
-use Rattle.cc_faults.specs.declared.plain.Length.TheVariants as some_length
-use Rattle.cc_faults.specs.declared.plain.LocalForm.TheVariants as form
 use Rattle.cc_faults.specs.declared.plain.Phrase.TheVariants as phrase
-use Rattle.cc_faults.specs.declared.plain.Plain.{Plain}
 use Rattle.cc_faults.specs.declared.plain.Statement.TheVariants as statement
 use Rattle.cc_faults.specs.declared.plain.Step.TheVariants as step
-use Rattle.cc_faults.specs.declared.plain.StepWord.TheVariants as word
+use Rattle.cc_faults.specs.declared.plain.StepWord.TheVariants as step_word
 use Rattle.cc_faults.specs.declared.plain.TypeName.TheVariants as type_name
 use Rattle.types_tests.specs.Seen.{Row, at, fault_at, x}
 
@@ -24,16 +18,16 @@ text0 = (
   record {
     names = 4;
     formats = [];
-    items = (item.Specification (x 1 14 2) [] (record {
+    items = (item.Specification (x 1 14 1) [] (record {
       result = (Some (type_name.Void (at 1 26)));
       name = (x 1 31
-          1);
+          2);
       parameters = ((type_name.Number numeric.Int) ∷ []);
-    } ∷ []) ∷ item.Body (x 1 57 2) [] ((statement.Accept (record {
+    } ∷ []) ∷ item.Body (x 1 57 1) [] ((statement.Accept (record {
       head = record {
         place = (at
             1 63);
-        name = (x 1 70 1);
+        name = (x 1 70 2);
         names = ((x 1 72 3) ∷ []);
         clauses = (record { word = clause_word.By; expression = (phrase.Call (x 1 79 3) []) } ∷ []);
       };
@@ -49,12 +43,12 @@ text1 = (
   record {
     names = 5;
     formats = [];
-    items = (item.Function (type_name.Number numeric.Int) (x 1 1 1) [] [] ∷ item.Specification (x 1 22 3) []
-        (record { result = (Some (type_name.Void (at 1 34))); name = (x 1 39 2); parameters = ((type_name.Number numeric.Int) ∷ []) } ∷ []) ∷ item.Body (x
-        1 65 3) [] ((statement.Accept (record {
+    items = (item.Function (type_name.Number numeric.Int) (x 1 1 1) [] [] ∷ item.Specification (x 1 22 2) []
+        (record { result = (Some (type_name.Void (at 1 34))); name = (x 1 39 3); parameters = ((type_name.Number numeric.Int) ∷ []) } ∷ []) ∷ item.Body (x
+        1 65 2) [] ((statement.Accept (record {
           head = record {
             place = (at 1 71);
-            name = (x 1 78 2);
+            name = (x 1 78 3);
             names = ((x 1 80 4) ∷ []);
             clauses = (record {
               word
@@ -80,21 +74,21 @@ text2 = (
       name = (x 1 16 2);
       length =
           None;
-    } ∷ []) ∷ item.Specification (x 1 35 4) [] (record {
+    } ∷ []) ∷ item.Specification (x 1 35 3) [] (record {
       result = (Some (type_name.Void (at 1 47)));
-      name = (x 1 52 3);
+      name = (x 1 52 4);
       parameters =
           ((type_name.Structure (x 1 61 1)) ∷ []);
-    } ∷ []) ∷ item.Body (x 1 83 4) [] ((statement.Accept (record {
+    } ∷ []) ∷ item.Body (x 1 83 3) [] ((statement.Accept (record {
       head = record {
         place = (at 1 89);
         name =
-            (x 1 96 3);
+            (x 1 96 4);
         names = ((x 1 98 5) ∷ []);
         clauses = (record {
           word = clause_word.SuchThat;
           expression = (phrase.StepAfter (phrase.Name (x 1 111 5))
-              word.Up);
+              step_word.Up);
         } ∷ []);
       };
       block = [];
@@ -110,26 +104,26 @@ text3 = (
   record {
     names = 4;
     formats = [];
-    items = (item.Specification (x 1 14 2) [] (record {
+    items = (item.Specification (x 1 14 1) [] (record {
       result = (Some (type_name.Void (at 1 26)));
       name = (x 1 31
-          1);
+          2);
       parameters = ((type_name.Number numeric.Int) ∷ []);
-    } ∷ []) ∷ item.Body (x 1 57 2) [] ((statement.Accept (record {
+    } ∷ []) ∷ item.Body (x 1 57 1) [] ((statement.Accept (record {
       head = record {
         place = (at
             1 63);
-        name = (x 1 70 1);
+        name = (x 1 70 2);
         names = ((x 1 72 3) ∷ []);
         clauses = (record {
           word = clause_word.SuchThat;
           expression = (phrase.StepAfter
-              (phrase.Number (at 1 85) (pos 5) numeric.Int) word.Up);
+              (phrase.Number (at 1 85) (pos 5) numeric.Int) step_word.Up);
         } ∷ []);
       };
       block = [];
-    })) ∷ []) ∷ item.Function (type_name.Number numeric.Int) (x 1 93 0)
-        [] [] ∷ []);
+    })) ∷ []) ∷ item.Function (type_name.Number numeric.Int) (x 1 93
+        0) [] [] ∷ []);
   },
   Some (fault_at 1 85 kind.NotAPlace),
 )
@@ -140,16 +134,16 @@ text4 = (
   record {
     names = 4;
     formats = [];
-    items = (item.Specification (x 1 14 2) [] (record {
+    items = (item.Specification (x 1 14 1) [] (record {
       result = (Some (type_name.Void (at 1 26)));
       name = (x 1 31
-          1);
+          2);
       parameters = ((type_name.Number numeric.Int) ∷ []);
-    } ∷ []) ∷ item.Body (x 1 57 2) [] ((statement.Accept (record {
+    } ∷ []) ∷ item.Body (x 1 57 1) [] ((statement.Accept (record {
       head = record {
         place = (at
             1 63);
-        name = (x 1 70 1);
+        name = (x 1 70 2);
         names = ((x 1 72 3) ∷ []);
         clauses = (record {
           word = clause_word.SuchThat;
@@ -185,7 +179,7 @@ text6 = (
     names = 2;
     formats = [];
     items = (item.Function (type_name.Void (at 1 1)) (x 1 6 1) [] [] ∷ item.Function (type_name.Number numeric.Int)
-        (x 1 14 0) [] ((statement.Evaluate (phrase.StepAfter (phrase.Call (x 1 23 1) []) word.Up)) ∷ []) ∷ []);
+        (x 1 14 0) [] ((statement.Evaluate (phrase.StepAfter (phrase.Call (x 1 23 1) []) step_word.Up)) ∷ []) ∷ []);
   },
   Some (fault_at 1 23 kind.Mismatch),
 )
@@ -196,15 +190,15 @@ text7 = (
   record {
     names = 3;
     formats = [];
-    items = (item.Specification (x 1 14 2) [] (record {
+    items = (item.Specification (x 1 14 1) [] (record {
       result = (Some (type_name.Void (at 1 26)));
       name = (x 1 31
-          1);
+          2);
       parameters = [];
-    } ∷ []) ∷ item.Body (x 1 52 2) [] ((statement.Accept (record {
+    } ∷ []) ∷ item.Body (x 1 52 1) [] ((statement.Accept (record {
       head = record {
         place = (at 1 58);
-        name = (x 1 65 1);
+        name = (x 1 65 2);
         names =
             [];
         clauses = [];

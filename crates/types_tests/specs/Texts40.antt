@@ -1,20 +1,14 @@
 -- a part without a type that holds no fault
-use Rattle.std.specs.Prelude.{ℕ, pos, true, false, List, [], ◌∷◌, Option, Some, None}
-use Rattle.cc_base.specs.declared.names.Place.{Place}
-use Rattle.cc_base.specs.declared.numbers.Comparison.TheVariants as comparison
+use Rattle.std.specs.Prelude.{pos, List, [], ◌∷◌, Some, None}
 use Rattle.cc_base.specs.declared.numbers.NumberType.TheVariants as numeric
 use Rattle.cc_base.specs.declared.numbers.Operator.TheVariants as operator
 use Rattle.cc_faults.specs.declared.fault.TypeKind.TheVariants as kind
-use Rattle.cc_faults.specs.declared.plain.Choice.TheVariants as choice
-use Rattle.cc_faults.specs.declared.plain.ClauseWord.TheVariants as clause_word
 use Rattle.cc_faults.specs.declared.plain.Item.TheVariants as item
-use Rattle.cc_faults.specs.declared.plain.Length.TheVariants as some_length
 use Rattle.cc_faults.specs.declared.plain.LocalForm.TheVariants as form
 use Rattle.cc_faults.specs.declared.plain.Phrase.TheVariants as phrase
-use Rattle.cc_faults.specs.declared.plain.Plain.{Plain}
 use Rattle.cc_faults.specs.declared.plain.Statement.TheVariants as statement
 use Rattle.cc_faults.specs.declared.plain.Step.TheVariants as step
-use Rattle.cc_faults.specs.declared.plain.StepWord.TheVariants as word
+use Rattle.cc_faults.specs.declared.plain.StepWord.TheVariants as step_word
 use Rattle.cc_faults.specs.declared.plain.TypeName.TheVariants as type_name
 use Rattle.types_tests.specs.Seen.{Row, at, fault_at, x}
 
@@ -38,8 +32,9 @@ text1 = (
     names = 3;
     formats = [];
     items = (item.Function (type_name.Number numeric.Int) (x 1 1 0) [] ((statement.Evaluate (phrase.StepAfter
-        (phrase.Call (x 1 10 1) []) word.Up)) ∷ []) ∷ item.Function (type_name.Number numeric.Int) (x 1 19 1) (record {
-          of = (type_name.Void (at 1 21));
+        (phrase.Call (x 1 10 1) []) step_word.Up)) ∷ []) ∷ item.Function (type_name.Number numeric.Int) (x 1 19 1) (record {
+          of = (type_name.Void (at 1
+              21));
           name = (x 1 26 2);
         } ∷ []) [] ∷ []);
   },
@@ -93,7 +88,7 @@ text5 = (
   record {
     names = 3;
     formats = [];
-    items = (item.Body (x 1 14 1) ((x 1 16 2) ∷ []) ((statement.Evaluate (phrase.StepBefore (at 1 21) word.Up
+    items = (item.Body (x 1 14 1) ((x 1 16 2) ∷ []) ((statement.Evaluate (phrase.StepBefore (at 1 21) step_word.Up
         (phrase.Parenthesized (at 1 23) (phrase.Arithmetic (phrase.Name (x 1 24 2)) (record {
           operator = operator.Add;
           operand = (phrase.Number (at 1 28)
@@ -111,14 +106,14 @@ text6 = (
     names = 5;
     formats = [];
     items = (item.Body (x 1 14 1) ((x 1 16 2) ∷ []) ((statement.Evaluate (phrase.Assign (phrase.Name (x 1 21 2))
-        (phrase.Number (at 1 25) (pos 1) numeric.Int))) ∷ (statement.Evaluate (phrase.StepAfter (phrase.Name (x 1 28 2)) word.Up)) ∷ (statement.Evaluate
-        (phrase.Assign (phrase.Chain (phrase.Name (x 1 33 2)) (step.Field (x 1 35 3) ∷ [])) (phrase.Number (at 1 39) (pos 2) numeric.Int))) ∷
-        (statement.Evaluate (phrase.Update (phrase.Chain (phrase.Parenthesized (at 1 42) (phrase.Chain (phrase.Name (x 1 43 2)) (step.Index (phrase.Number
-        (at 1 45) (pos 1) numeric.Int) ∷ []))) (step.Field (x 1 49 4) ∷ [])) operator.Subtract (phrase.Number (at 1 54) (pos 3) numeric.Int))) ∷ []) ∷
-        item.Specification (x 1 72 1) ((type_name.Void (at 1 74)) ∷ []) [] ∷ item.Function (type_name.Number numeric.Int) (x 1 83 0) [] [] ∷ []);
+        (phrase.Number (at 1 25) (pos 1) numeric.Int))) ∷ (statement.Evaluate (phrase.StepAfter (phrase.Name (x 1 28 2)) step_word.Up)) ∷
+        (statement.Evaluate (phrase.Assign (phrase.Chain (phrase.Name (x 1 33 2)) (step.Field (x 1 35 3) ∷ [])) (phrase.Number (at 1 39) (pos 2)
+        numeric.Int))) ∷ (statement.Evaluate (phrase.Update (phrase.Chain (phrase.Parenthesized (at 1 42) (phrase.Chain (phrase.Name (x 1 43 2))
+        (step.Index (phrase.Number (at 1 45) (pos 1) numeric.Int) ∷ []))) (step.Field (x 1 49 4) ∷ [])) operator.Subtract (phrase.Number (at 1 54) (pos 3)
+        numeric.Int))) ∷ []) ∷ item.Specification (x 1 72 1) ((type_name.Void (at 1 74)) ∷ []) [] ∷ item.Function (type_name.Number numeric.Int) (x 1 83
+        0) [] [] ∷ []);
   },
-  Some
-      (fault_at 1 74 kind.VoidHere),
+  Some (fault_at 1 74 kind.VoidHere),
 )
 
 -- main() { within 1 ? f() : 0; } f(void x) { }

@@ -1,20 +1,13 @@
 -- what is known beside a fault in a declaration
-use Rattle.std.specs.Prelude.{ℕ, pos, true, false, List, [], ◌∷◌, Option, Some, None}
-use Rattle.cc_base.specs.declared.names.Place.{Place}
-use Rattle.cc_base.specs.declared.numbers.Comparison.TheVariants as comparison
+use Rattle.std.specs.Prelude.{pos, List, [], ◌∷◌, Some, None}
 use Rattle.cc_base.specs.declared.numbers.NumberType.TheVariants as numeric
 use Rattle.cc_base.specs.declared.numbers.Operator.TheVariants as operator
 use Rattle.cc_faults.specs.declared.fault.TypeKind.TheVariants as kind
-use Rattle.cc_faults.specs.declared.plain.Choice.TheVariants as choice
-use Rattle.cc_faults.specs.declared.plain.ClauseWord.TheVariants as clause_word
 use Rattle.cc_faults.specs.declared.plain.Item.TheVariants as item
 use Rattle.cc_faults.specs.declared.plain.Length.TheVariants as some_length
 use Rattle.cc_faults.specs.declared.plain.LocalForm.TheVariants as form
 use Rattle.cc_faults.specs.declared.plain.Phrase.TheVariants as phrase
-use Rattle.cc_faults.specs.declared.plain.Plain.{Plain}
 use Rattle.cc_faults.specs.declared.plain.Statement.TheVariants as statement
-use Rattle.cc_faults.specs.declared.plain.Step.TheVariants as step
-use Rattle.cc_faults.specs.declared.plain.StepWord.TheVariants as word
 use Rattle.cc_faults.specs.declared.plain.TypeName.TheVariants as type_name
 use Rattle.types_tests.specs.Seen.{Row, at, fault_at, x}
 
@@ -67,10 +60,10 @@ text2 = (
     items = (item.Function (type_name.Number numeric.Int) (x 1 1 0) [] ((statement.Declare (record {
       of =
           (type_name.Number numeric.Int);
-      name = (x 1 14 2);
-      form = form.Value (phrase.Create (at 1 18) (x 1 25 1) []);
+      name = (x 1 14 1);
+      form = form.Value (phrase.Create (at 1 18) (x 1 25 2) []);
     })) ∷ []) ∷ item.Specification (x 1
-        45 1) ((type_name.Void (at 1 47)) ∷ []) [] ∷ item.Body (x 1 69 1) ((x 1 71 3) ∷ []) [] ∷ []);
+        45 2) ((type_name.Void (at 1 47)) ∷ []) [] ∷ item.Body (x 1 69 2) ((x 1 71 3) ∷ []) [] ∷ []);
   },
   Some (fault_at 1 47 kind.VoidHere),
 )
@@ -176,11 +169,11 @@ text7 = (
       name = (x 1 16 2);
       length =
           (Some (some_length.Number (at 1 18) (pos 200)));
-    } ∷ []) ∷ item.Function (type_name.Number numeric.Int) (x 1 27 4) (record {
+    } ∷ []) ∷ item.Function (type_name.Number numeric.Int) (x 1 27 3) (record {
       of =
           (type_name.Structure (x 1 36 1));
-      name = (x 1 38 3);
-    } ∷ record { of = (type_name.Structure (x 1 48 1)); name = (x 1 50 3) } ∷ []) [] ∷
+      name = (x 1 38 4);
+    } ∷ record { of = (type_name.Structure (x 1 48 1)); name = (x 1 50 4) } ∷ []) [] ∷
         item.Function (type_name.Number numeric.Int) (x 1 57 0) [] [] ∷ []);
   },
   Some (fault_at 1 27 kind.ManyCells),

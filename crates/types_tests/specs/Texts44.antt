@@ -1,20 +1,15 @@
 -- more of names, accepts and clauses
-use Rattle.std.specs.Prelude.{ℕ, pos, true, false, List, [], ◌∷◌, Option, Some, None}
-use Rattle.cc_base.specs.declared.names.Place.{Place}
-use Rattle.cc_base.specs.declared.numbers.Comparison.TheVariants as comparison
+use Rattle.std.specs.Prelude.{pos, true, false, List, [], ◌∷◌, Some, None}
 use Rattle.cc_base.specs.declared.numbers.NumberType.TheVariants as numeric
-use Rattle.cc_base.specs.declared.numbers.Operator.TheVariants as operator
 use Rattle.cc_faults.specs.declared.fault.TypeKind.TheVariants as kind
-use Rattle.cc_faults.specs.declared.plain.Choice.TheVariants as choice
 use Rattle.cc_faults.specs.declared.plain.ClauseWord.TheVariants as clause_word
 use Rattle.cc_faults.specs.declared.plain.Item.TheVariants as item
 use Rattle.cc_faults.specs.declared.plain.Length.TheVariants as some_length
 use Rattle.cc_faults.specs.declared.plain.LocalForm.TheVariants as form
 use Rattle.cc_faults.specs.declared.plain.Phrase.TheVariants as phrase
-use Rattle.cc_faults.specs.declared.plain.Plain.{Plain}
 use Rattle.cc_faults.specs.declared.plain.Statement.TheVariants as statement
 use Rattle.cc_faults.specs.declared.plain.Step.TheVariants as step
-use Rattle.cc_faults.specs.declared.plain.StepWord.TheVariants as word
+use Rattle.cc_faults.specs.declared.plain.StepWord.TheVariants as step_word
 use Rattle.cc_faults.specs.declared.plain.TypeName.TheVariants as type_name
 use Rattle.types_tests.specs.Seen.{Row, at, fault_at, x}
 
@@ -24,16 +19,16 @@ text0 = (
   record {
     names = 5;
     formats = [];
-    items = (item.Specification (x 1 14 2) [] (record {
+    items = (item.Specification (x 1 14 1) [] (record {
       result = (Some (type_name.Void (at 1 26)));
       name = (x 1 31
-          1);
+          2);
       parameters = ((type_name.Number numeric.Int) ∷ []);
-    } ∷ []) ∷ item.Body (x 1 57 2) [] ((statement.Accept (record {
+    } ∷ []) ∷ item.Body (x 1 57 1) [] ((statement.Accept (record {
       head = record {
         place = (at
             1 63);
-        name = (x 1 70 1);
+        name = (x 1 70 2);
         names = ((x 1 72 3) ∷ []);
         clauses = (record {
           word = clause_word.SuchThat;
@@ -54,16 +49,16 @@ text1 = (
   record {
     names = 5;
     formats = [];
-    items = (item.Specification (x 1 14 2) [] (record {
+    items = (item.Specification (x 1 14 1) [] (record {
       result = (Some (type_name.Void (at 1 26)));
       name = (x 1 31
-          1);
+          2);
       parameters = ((type_name.Number numeric.Int) ∷ []);
-    } ∷ []) ∷ item.Body (x 1 57 2) [] ((statement.Accept (record {
+    } ∷ []) ∷ item.Body (x 1 57 1) [] ((statement.Accept (record {
       head = record {
         place = (at
             1 63);
-        name = (x 1 70 1);
+        name = (x 1 70 2);
         names = ((x 1 72 3) ∷ []);
         clauses = (record {
           word = clause_word.SuchThat;
@@ -84,26 +79,26 @@ text2 = (
   record {
     names = 4;
     formats = [];
-    items = (item.Specification (x 1 14 2) [] (record {
+    items = (item.Specification (x 1 14 1) [] (record {
       result = (Some (type_name.Void (at 1 26)));
       name = (x 1 31
-          1);
+          2);
       parameters = ((type_name.Number numeric.Int) ∷ []);
-    } ∷ []) ∷ item.Body (x 1 57 2) [] ((statement.Accept (record {
+    } ∷ []) ∷ item.Body (x 1 57 1) [] ((statement.Accept (record {
       head = record {
         place = (at
             1 63);
-        name = (x 1 70 1);
+        name = (x 1 70 2);
         names = ((x 1 72 3) ∷ []);
         clauses = (record {
           word = clause_word.SuchThat;
           expression = (phrase.Assign
-              (phrase.StepAfter (phrase.Name (x 1 85 3)) word.Up) (phrase.Number (at 1 91) (pos 1) numeric.Int));
+              (phrase.StepAfter (phrase.Name (x 1 85 3)) step_word.Up) (phrase.Number (at 1 91) (pos 1) numeric.Int));
         } ∷ []);
       };
       block = [];
-    })) ∷ []) ∷ item.Function
-        (type_name.Number numeric.Int) (x 1 97 0) [] [] ∷ []);
+    })) ∷ []) ∷
+        item.Function (type_name.Number numeric.Int) (x 1 97 0) [] [] ∷ []);
   },
   Some (fault_at 1 85 kind.NotPure),
 )
@@ -114,16 +109,16 @@ text3 = (
   record {
     names = 4;
     formats = [];
-    items = (item.Specification (x 1 14 2) [] (record {
+    items = (item.Specification (x 1 14 1) [] (record {
       result = (Some (type_name.Void (at 1 26)));
       name = (x 1 31
-          1);
+          2);
       parameters = ((type_name.Number numeric.Int) ∷ []);
-    } ∷ []) ∷ item.Body (x 1 57 2) [] ((statement.Accept (record {
+    } ∷ []) ∷ item.Body (x 1 57 1) [] ((statement.Accept (record {
       head = record {
         place = (at
             1 63);
-        name = (x 1 70 1);
+        name = (x 1 70 2);
         names = ((x 1 72 3) ∷ []);
         clauses = (record {
           word = clause_word.SuchThat;
@@ -144,12 +139,12 @@ text4 = (
   record {
     names = 5;
     formats = [];
-    items = (item.Function (type_name.Number numeric.Int) (x 1 1 1) [] [] ∷ item.Specification (x 1 22 3) []
-        (record { result = (Some (type_name.Void (at 1 34))); name = (x 1 39 2); parameters = ((type_name.Number numeric.Int) ∷ []) } ∷ []) ∷ item.Body (x
-        1 65 3) [] ((statement.Accept (record {
+    items = (item.Function (type_name.Number numeric.Int) (x 1 1 1) [] [] ∷ item.Specification (x 1 22 2) []
+        (record { result = (Some (type_name.Void (at 1 34))); name = (x 1 39 3); parameters = ((type_name.Number numeric.Int) ∷ []) } ∷ []) ∷ item.Body (x
+        1 65 2) [] ((statement.Accept (record {
           head = record {
             place = (at 1 71);
-            name = (x 1 78 2);
+            name = (x 1 78 3);
             names = ((x 1 80 4) ∷ []);
             clauses = (record {
               word
@@ -278,17 +273,17 @@ text11 = (
   record {
     names = 4;
     formats = [];
-    items = (item.Specification (x 1 14 3) [] (record {
+    items = (item.Specification (x 1 14 1) [] (record {
       result = (Some (type_name.Number numeric.Int));
       name = (x 1
-          30 1);
+          30 2);
       parameters = [];
-    } ∷ record { result = (Some (type_name.Void (at 1 41))); name = (x 1 46 2); parameters = [] } ∷ []) ∷ item.Body (x 1 67 3)
+    } ∷ record { result = (Some (type_name.Void (at 1 41))); name = (x 1 46 3); parameters = [] } ∷ []) ∷ item.Body (x 1 67 1)
         [] ((statement.Accept (record {
-          head = record { place = (at 1 73); name = (x 1 80 1); names = []; clauses = [] };
+          head = record { place = (at 1 73); name = (x 1 80 2); names = []; clauses = [] };
           block = ((statement.Accept
               (record {
-                head = record { place = (at 1 86); name = (x 1 93 2); names = []; clauses = [] };
+                head = record { place = (at 1 86); name = (x 1 93 3); names = []; clauses = [] };
                 block = ((statement.TransactionReturn (at 1 99) None)
                     ∷ []);
               })) ∷ (statement.TransactionReturn (at 1 110) (Some (phrase.Number (at 1 118) (pos 1) numeric.Int))) ∷ []);

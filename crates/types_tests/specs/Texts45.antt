@@ -1,20 +1,13 @@
 -- more of names, accepts and clauses
-use Rattle.std.specs.Prelude.{ℕ, pos, true, false, List, [], ◌∷◌, Option, Some, None}
-use Rattle.cc_base.specs.declared.names.Place.{Place}
+use Rattle.std.specs.Prelude.{pos, List, [], ◌∷◌, Some, None}
 use Rattle.cc_base.specs.declared.numbers.Comparison.TheVariants as comparison
 use Rattle.cc_base.specs.declared.numbers.NumberType.TheVariants as numeric
-use Rattle.cc_base.specs.declared.numbers.Operator.TheVariants as operator
 use Rattle.cc_faults.specs.declared.fault.TypeKind.TheVariants as kind
-use Rattle.cc_faults.specs.declared.plain.Choice.TheVariants as choice
-use Rattle.cc_faults.specs.declared.plain.ClauseWord.TheVariants as clause_word
 use Rattle.cc_faults.specs.declared.plain.Item.TheVariants as item
 use Rattle.cc_faults.specs.declared.plain.Length.TheVariants as some_length
 use Rattle.cc_faults.specs.declared.plain.LocalForm.TheVariants as form
 use Rattle.cc_faults.specs.declared.plain.Phrase.TheVariants as phrase
-use Rattle.cc_faults.specs.declared.plain.Plain.{Plain}
 use Rattle.cc_faults.specs.declared.plain.Statement.TheVariants as statement
-use Rattle.cc_faults.specs.declared.plain.Step.TheVariants as step
-use Rattle.cc_faults.specs.declared.plain.StepWord.TheVariants as word
 use Rattle.cc_faults.specs.declared.plain.TypeName.TheVariants as type_name
 use Rattle.types_tests.specs.Seen.{Row, at, fault_at, x}
 
@@ -24,17 +17,17 @@ text0 = (
   record {
     names = 4;
     formats = [];
-    items = (item.Specification (x 1 14 3) [] (record {
+    items = (item.Specification (x 1 14 1) [] (record {
       result = (Some (type_name.Number numeric.Int));
       name = (x 1
-          30 1);
+          30 2);
       parameters = [];
-    } ∷ record { result = (Some (type_name.Void (at 1 41))); name = (x 1 46 2); parameters = [] } ∷ []) ∷ item.Body (x 1 67 3)
+    } ∷ record { result = (Some (type_name.Void (at 1 41))); name = (x 1 46 3); parameters = [] } ∷ []) ∷ item.Body (x 1 67 1)
         [] ((statement.Accept (record {
-          head = record { place = (at 1 73); name = (x 1 80 2); names = []; clauses = [] };
+          head = record { place = (at 1 73); name = (x 1 80 3); names = []; clauses = [] };
           block = ((statement.Accept
               (record {
-                head = record { place = (at 1 86); name = (x 1 93 1); names = []; clauses = [] };
+                head = record { place = (at 1 86); name = (x 1 93 2); names = []; clauses = [] };
                 block = ((statement.TransactionReturn (at 1 99) (Some
                     (phrase.Number (at 1 107) (pos 1) numeric.Int))) ∷ []);
               })) ∷ (statement.TransactionReturn (at 1 112) (Some (phrase.Number (at 1 120) (pos 2)

@@ -1,20 +1,16 @@
 -- 26 PureTooDeep: an index adds one to the depth, so does a right operand; a row and `&&` don't
-use Rattle.std.specs.Prelude.{ℕ, pos, true, false, List, [], ◌∷◌, Option, Some, None}
-use Rattle.cc_base.specs.declared.names.Place.{Place}
-use Rattle.cc_base.specs.declared.numbers.Comparison.TheVariants as comparison
+use Rattle.std.specs.Prelude.{pos, List, [], ◌∷◌, Some, None}
 use Rattle.cc_base.specs.declared.numbers.NumberType.TheVariants as numeric
 use Rattle.cc_base.specs.declared.numbers.Operator.TheVariants as operator
 use Rattle.cc_faults.specs.declared.fault.TypeKind.TheVariants as kind
-use Rattle.cc_faults.specs.declared.plain.Choice.TheVariants as choice
 use Rattle.cc_faults.specs.declared.plain.ClauseWord.TheVariants as clause_word
 use Rattle.cc_faults.specs.declared.plain.Item.TheVariants as item
 use Rattle.cc_faults.specs.declared.plain.Length.TheVariants as some_length
 use Rattle.cc_faults.specs.declared.plain.LocalForm.TheVariants as form
 use Rattle.cc_faults.specs.declared.plain.Phrase.TheVariants as phrase
-use Rattle.cc_faults.specs.declared.plain.Plain.{Plain}
 use Rattle.cc_faults.specs.declared.plain.Statement.TheVariants as statement
 use Rattle.cc_faults.specs.declared.plain.Step.TheVariants as step
-use Rattle.cc_faults.specs.declared.plain.StepWord.TheVariants as word
+use Rattle.cc_faults.specs.declared.plain.StepWord.TheVariants as step_word
 use Rattle.cc_faults.specs.declared.plain.TypeName.TheVariants as type_name
 use Rattle.types_tests.specs.Seen.{Row, at, fault_at, x}
 
@@ -24,12 +20,12 @@ text0 = (
   record {
     names = 5;
     formats = [];
-    items = (item.Specification (x 1 14 2) [] (record {
+    items = (item.Specification (x 1 14 1) [] (record {
       result = (Some (type_name.Void (at 1 26)));
       name = (x 1 31
-          1);
+          2);
       parameters = ((type_name.Number numeric.Int) ∷ []);
-    } ∷ []) ∷ item.Body (x 1 57 2) [] ((statement.Declare (record {
+    } ∷ []) ∷ item.Body (x 1 57 1) [] ((statement.Declare (record {
       of = (type_name.Number
           numeric.Int);
       name = (x 1 67 3);
@@ -38,7 +34,7 @@ text0 = (
       head = record {
         place
             = (at 1 73);
-        name = (x 1 80 1);
+        name = (x 1 80 2);
         names = ((x 1 82 4) ∷ []);
         clauses = (record {
           word = clause_word.SuchThat;
@@ -84,12 +80,12 @@ text1 = (
   record {
     names = 5;
     formats = [];
-    items = (item.Specification (x 1 14 2) [] (record {
+    items = (item.Specification (x 1 14 1) [] (record {
       result = (Some (type_name.Void (at 1 26)));
       name = (x 1 31
-          1);
+          2);
       parameters = ((type_name.Number numeric.Int) ∷ []);
-    } ∷ []) ∷ item.Body (x 1 57 2) [] ((statement.Declare (record {
+    } ∷ []) ∷ item.Body (x 1 57 1) [] ((statement.Declare (record {
       of = (type_name.Number
           numeric.Int);
       name = (x 1 67 3);
@@ -98,7 +94,7 @@ text1 = (
       head = record {
         place
             = (at 1 73);
-        name = (x 1 80 1);
+        name = (x 1 80 2);
         names = ((x 1 82 4) ∷ []);
         clauses = (record {
           word = clause_word.SuchThat;
@@ -145,16 +141,16 @@ text2 = (
   record {
     names = 4;
     formats = [];
-    items = (item.Specification (x 1 14 2) [] (record {
+    items = (item.Specification (x 1 14 1) [] (record {
       result = (Some (type_name.Void (at 1 26)));
       name = (x 1 31
-          1);
+          2);
       parameters = ((type_name.Number numeric.Int) ∷ []);
-    } ∷ []) ∷ item.Body (x 1 57 2) [] ((statement.Accept (record {
+    } ∷ []) ∷ item.Body (x 1 57 1) [] ((statement.Accept (record {
       head = record {
         place = (at
             1 63);
-        name = (x 1 70 1);
+        name = (x 1 70 2);
         names = ((x 1 72 3) ∷ []);
         clauses = (record {
           word = clause_word.By;
@@ -416,16 +412,16 @@ text3 = (
   record {
     names = 4;
     formats = [];
-    items = (item.Specification (x 1 14 2) [] (record {
+    items = (item.Specification (x 1 14 1) [] (record {
       result = (Some (type_name.Void (at 1 26)));
       name = (x 1 31
-          1);
+          2);
       parameters = ((type_name.Number numeric.Int) ∷ []);
-    } ∷ []) ∷ item.Body (x 1 57 2) [] ((statement.Accept (record {
+    } ∷ []) ∷ item.Body (x 1 57 1) [] ((statement.Accept (record {
       head = record {
         place = (at
             1 63);
-        name = (x 1 70 1);
+        name = (x 1 70 2);
         names = ((x 1 72 3) ∷ []);
         clauses = (record {
           word = clause_word.By;
@@ -694,16 +690,16 @@ text4 = (
   record {
     names = 4;
     formats = [];
-    items = (item.Specification (x 1 14 2) [] (record {
+    items = (item.Specification (x 1 14 1) [] (record {
       result = (Some (type_name.Void (at 1 26)));
       name = (x 1 31
-          1);
+          2);
       parameters = ((type_name.Number numeric.Int) ∷ []);
-    } ∷ []) ∷ item.Body (x 1 57 2) [] ((statement.Accept (record {
+    } ∷ []) ∷ item.Body (x 1 57 1) [] ((statement.Accept (record {
       head = record {
         place = (at
             1 63);
-        name = (x 1 70 1);
+        name = (x 1 70 2);
         names = ((x 1 72 3) ∷ []);
         clauses = (record {
           word = clause_word.By;
@@ -872,16 +868,16 @@ text5 = (
   record {
     names = 4;
     formats = [];
-    items = (item.Specification (x 1 14 2) [] (record {
+    items = (item.Specification (x 1 14 1) [] (record {
       result = (Some (type_name.Void (at 1 26)));
       name = (x 1 31
-          1);
+          2);
       parameters = ((type_name.Number numeric.Int) ∷ []);
-    } ∷ []) ∷ item.Body (x 1 57 2) [] ((statement.Accept (record {
+    } ∷ []) ∷ item.Body (x 1 57 1) [] ((statement.Accept (record {
       head = record {
         place = (at
             1 63);
-        name = (x 1 70 1);
+        name = (x 1 70 2);
         names = ((x 1 72 3) ∷ []);
         clauses = (record {
           word = clause_word.By;
@@ -919,14 +915,14 @@ text6 = (
   record {
     names = 6;
     formats = [];
-    items = (item.Specification (x 1 14 2) [] (record {
+    items = (item.Specification (x 1 14 1) [] (record {
       result = (Some (type_name.Void (at 1 26)));
       name = (x 1 31
-          1);
+          2);
       parameters = ((type_name.Number numeric.Int) ∷ []);
-    } ∷ []) ∷ item.Body (x 1 57 2) [] ((statement.Declare (record {
+    } ∷ []) ∷ item.Body (x 1 57 1) [] ((statement.Declare (record {
       of = (type_name.Process (x
-          1 71 2));
+          1 71 1));
       name = (x 1 73 3);
       form = form.Array (some_length.Number (at 1 75) (pos 2));
     })) ∷ (statement.Declare (record {
@@ -938,7 +934,7 @@ text6 = (
       head = record {
         place
             = (at 1 89);
-        name = (x 1 96 1);
+        name = (x 1 96 2);
         names = ((x 1 98 5) ∷ []);
         clauses = (record {
           word = clause_word.SuchThat;
@@ -985,263 +981,265 @@ text7 = (
   record {
     names = 4;
     formats = [];
-    items = (item.Specification (x 1 14 2) [] (record {
+    items = (item.Specification (x 1 14 1) [] (record {
       result = (Some (type_name.Void (at 1 26)));
       name = (x 1 31
-          1);
+          2);
       parameters = ((type_name.Number numeric.Int) ∷ []);
-    } ∷ []) ∷ item.Body (x 1 57 2) [] ((statement.Accept (record {
+    } ∷ []) ∷ item.Body (x 1 57 1) [] ((statement.Accept (record {
       head = record {
         place = (at
             1 63);
-        name = (x 1 70 1);
+        name = (x 1 70 2);
         names = ((x 1 72 3) ∷ []);
         clauses = (record {
           word = clause_word.By;
           expression = (phrase.Arithmetic (phrase.StepAfter
-              (phrase.Name (x 1 79 3)) word.Up) (record {
+              (phrase.Name (x 1 79 3)) step_word.Up) (record {
                 operator = operator.Add;
-                operand = (phrase.Parenthesized (at 1 83) (phrase.Arithmetic (phrase.Name (x
-                    1 84 3)) (record {
+                operand = (phrase.Parenthesized (at 1 83) (phrase.Arithmetic
+                    (phrase.Name (x 1 84 3)) (record {
                       operator = operator.Add;
-                      operand = (phrase.Parenthesized (at 1 86) (phrase.Arithmetic (phrase.Name (x 1 87 3)) (record {
-                        operator = operator.Add;
-                        operand = (phrase.Parenthesized (at 1 89) (phrase.Arithmetic (phrase.Name (x 1 90 3)) (record {
-                          operator = operator.Add;
-                          operand = (phrase.Parenthesized (at 1 92) (phrase.Arithmetic (phrase.Name (x 1 93 3)) (record {
+                      operand = (phrase.Parenthesized (at 1 86) (phrase.Arithmetic (phrase.Name (x 1 87 3))
+                          (record {
                             operator = operator.Add;
-                            operand =
-                                (phrase.Parenthesized (at 1 95) (phrase.Arithmetic (phrase.Name (x 1 96 3)) (record {
-                                  operator = operator.Add;
-                                  operand = (phrase.Parenthesized (at
-                                      1 98) (phrase.Arithmetic (phrase.Name (x 1 99 3)) (record {
-                                        operator = operator.Add;
-                                        operand = (phrase.Parenthesized (at 1 101) (phrase.Arithmetic
-                                            (phrase.Name (x 1 102 3)) (record {
-                                              operator = operator.Add;
-                                              operand = (phrase.Parenthesized (at 1 104) (phrase.Arithmetic (phrase.Name (x 1 105
-                                                  3)) (record {
-                                                    operator = operator.Add;
-                                                    operand = (phrase.Parenthesized (at 1 107) (phrase.Arithmetic (phrase.Name (x 1 108 3)) (record {
-                                                      operator
-                                                          = operator.Add;
-                                                      operand = (phrase.Parenthesized (at 1 110) (phrase.Arithmetic (phrase.Name (x 1 111 3)) (record {
+                            operand = (phrase.Parenthesized (at 1 89) (phrase.Arithmetic (phrase.Name (x 1 90 3)) (record {
+                              operator =
+                                  operator.Add;
+                              operand = (phrase.Parenthesized (at 1 92) (phrase.Arithmetic (phrase.Name (x 1 93 3)) (record {
+                                operator = operator.Add;
+                                operand =
+                                    (phrase.Parenthesized (at 1 95) (phrase.Arithmetic (phrase.Name (x 1 96 3)) (record {
+                                      operator = operator.Add;
+                                      operand = (phrase.Parenthesized (at
+                                          1 98) (phrase.Arithmetic (phrase.Name (x 1 99 3)) (record {
+                                            operator = operator.Add;
+                                            operand = (phrase.Parenthesized (at 1 101) (phrase.Arithmetic
+                                                (phrase.Name (x 1 102 3)) (record {
+                                                  operator = operator.Add;
+                                                  operand = (phrase.Parenthesized (at 1 104) (phrase.Arithmetic (phrase.Name (x 1 105
+                                                      3)) (record {
                                                         operator = operator.Add;
-                                                        operand
-                                                            = (phrase.Parenthesized (at 1 113) (phrase.Arithmetic (phrase.Name (x 1 114 3)) (record {
-                                                              operator = operator.Add;
-                                                              operand = (phrase.Parenthesized
-                                                                  (at 1 116) (phrase.Arithmetic (phrase.Name (x 1 117 3)) (record {
-                                                                    operator = operator.Add;
-                                                                    operand = (phrase.Parenthesized (at 1 119)
-                                                                        (phrase.Arithmetic (phrase.Name (x 1 120 3)) (record {
-                                                                          operator = operator.Add;
-                                                                          operand = (phrase.Parenthesized (at 1 122) (phrase.Arithmetic
-                                                                              (phrase.Name (x 1 123 3)) (record {
-                                                                                operator = operator.Add;
-                                                                                operand = (phrase.Parenthesized (at 1 125) (phrase.Arithmetic (phrase.Name (x 1 126
-                                                                                    3)) (record {
-                                                                                      operator = operator.Add;
-                                                                                      operand = (phrase.Parenthesized (at 1 128) (phrase.Arithmetic (phrase.Name (x 1 129 3)) (record {
-                                                                                        operator
-                                                                                            = operator.Add;
-                                                                                        operand = (phrase.Parenthesized (at 1 131) (phrase.Arithmetic (phrase.Name (x 1 132 3)) (record {
+                                                        operand = (phrase.Parenthesized (at 1 107) (phrase.Arithmetic (phrase.Name (x 1 108 3)) (record {
+                                                          operator
+                                                              = operator.Add;
+                                                          operand = (phrase.Parenthesized (at 1 110) (phrase.Arithmetic (phrase.Name (x 1 111 3)) (record {
+                                                            operator = operator.Add;
+                                                            operand
+                                                                = (phrase.Parenthesized (at 1 113) (phrase.Arithmetic (phrase.Name (x 1 114 3)) (record {
+                                                                  operator = operator.Add;
+                                                                  operand = (phrase.Parenthesized
+                                                                      (at 1 116) (phrase.Arithmetic (phrase.Name (x 1 117 3)) (record {
+                                                                        operator = operator.Add;
+                                                                        operand = (phrase.Parenthesized (at 1 119)
+                                                                            (phrase.Arithmetic (phrase.Name (x 1 120 3)) (record {
+                                                                              operator = operator.Add;
+                                                                              operand = (phrase.Parenthesized (at 1 122) (phrase.Arithmetic
+                                                                                  (phrase.Name (x 1 123 3)) (record {
+                                                                                    operator = operator.Add;
+                                                                                    operand = (phrase.Parenthesized (at 1 125) (phrase.Arithmetic (phrase.Name (x 1 126
+                                                                                        3)) (record {
                                                                                           operator = operator.Add;
-                                                                                          operand
-                                                                                              = (phrase.Parenthesized (at 1 134) (phrase.Arithmetic (phrase.Name (x 1 135 3)) (record {
-                                                                                                operator = operator.Add;
-                                                                                                operand = (phrase.Parenthesized
-                                                                                                    (at 1 137) (phrase.Arithmetic (phrase.Name (x 1 138 3)) (record {
-                                                                                                      operator = operator.Add;
-                                                                                                      operand = (phrase.Parenthesized (at 1 140)
-                                                                                                          (phrase.Arithmetic (phrase.Name (x 1 141 3)) (record {
-                                                                                                            operator = operator.Add;
-                                                                                                            operand = (phrase.Parenthesized (at 1 143) (phrase.Arithmetic
-                                                                                                                (phrase.Name (x 1 144 3)) (record {
-                                                                                                                  operator = operator.Add;
-                                                                                                                  operand = (phrase.Parenthesized (at 1 146) (phrase.Arithmetic (phrase.Name (x 1 147
-                                                                                                                      3)) (record {
-                                                                                                                        operator = operator.Add;
-                                                                                                                        operand = (phrase.Parenthesized (at 1 149) (phrase.Arithmetic (phrase.Name (x 1 150 3)) (record {
-                                                                                                                          operator
-                                                                                                                              = operator.Add;
-                                                                                                                          operand = (phrase.Parenthesized (at 1 152) (phrase.Arithmetic (phrase.Name (x 1 153 3)) (record {
+                                                                                          operand = (phrase.Parenthesized (at 1 128) (phrase.Arithmetic (phrase.Name (x 1 129 3)) (record {
+                                                                                            operator
+                                                                                                = operator.Add;
+                                                                                            operand = (phrase.Parenthesized (at 1 131) (phrase.Arithmetic (phrase.Name (x 1 132 3)) (record {
+                                                                                              operator = operator.Add;
+                                                                                              operand
+                                                                                                  = (phrase.Parenthesized (at 1 134) (phrase.Arithmetic (phrase.Name (x 1 135 3)) (record {
+                                                                                                    operator = operator.Add;
+                                                                                                    operand = (phrase.Parenthesized
+                                                                                                        (at 1 137) (phrase.Arithmetic (phrase.Name (x 1 138 3)) (record {
+                                                                                                          operator = operator.Add;
+                                                                                                          operand = (phrase.Parenthesized (at 1 140)
+                                                                                                              (phrase.Arithmetic (phrase.Name (x 1 141 3)) (record {
+                                                                                                                operator = operator.Add;
+                                                                                                                operand = (phrase.Parenthesized (at 1 143) (phrase.Arithmetic
+                                                                                                                    (phrase.Name (x 1 144 3)) (record {
+                                                                                                                      operator = operator.Add;
+                                                                                                                      operand = (phrase.Parenthesized (at 1 146) (phrase.Arithmetic (phrase.Name (x 1 147
+                                                                                                                          3)) (record {
                                                                                                                             operator = operator.Add;
-                                                                                                                            operand
-                                                                                                                                = (phrase.Parenthesized (at 1 155) (phrase.Arithmetic (phrase.Name (x 1 156 3)) (record {
-                                                                                                                                  operator = operator.Add;
-                                                                                                                                  operand = (phrase.Parenthesized
-                                                                                                                                      (at 1 158) (phrase.Arithmetic (phrase.Name (x 1 159 3)) (record {
-                                                                                                                                        operator = operator.Add;
-                                                                                                                                        operand = (phrase.Parenthesized (at 1 161)
-                                                                                                                                            (phrase.Arithmetic (phrase.Name (x 1 162 3)) (record {
-                                                                                                                                              operator = operator.Add;
-                                                                                                                                              operand = (phrase.Parenthesized (at 1 164) (phrase.Arithmetic
-                                                                                                                                                  (phrase.Name (x 1 165 3)) (record {
-                                                                                                                                                    operator = operator.Add;
-                                                                                                                                                    operand = (phrase.Parenthesized (at 1 167) (phrase.Arithmetic (phrase.Name (x 1 168
-                                                                                                                                                        3)) (record {
-                                                                                                                                                          operator = operator.Add;
-                                                                                                                                                          operand = (phrase.Parenthesized (at 1 170) (phrase.Arithmetic (phrase.Name (x 1 171 3)) (record {
-                                                                                                                                                            operator
-                                                                                                                                                                = operator.Add;
-                                                                                                                                                            operand = (phrase.Parenthesized (at 1 173) (phrase.Arithmetic (phrase.Name (x 1 174 3)) (record {
+                                                                                                                            operand = (phrase.Parenthesized (at 1 149) (phrase.Arithmetic (phrase.Name (x 1 150 3)) (record {
+                                                                                                                              operator
+                                                                                                                                  = operator.Add;
+                                                                                                                              operand = (phrase.Parenthesized (at 1 152) (phrase.Arithmetic (phrase.Name (x 1 153 3)) (record {
+                                                                                                                                operator = operator.Add;
+                                                                                                                                operand
+                                                                                                                                    = (phrase.Parenthesized (at 1 155) (phrase.Arithmetic (phrase.Name (x 1 156 3)) (record {
+                                                                                                                                      operator = operator.Add;
+                                                                                                                                      operand = (phrase.Parenthesized
+                                                                                                                                          (at 1 158) (phrase.Arithmetic (phrase.Name (x 1 159 3)) (record {
+                                                                                                                                            operator = operator.Add;
+                                                                                                                                            operand = (phrase.Parenthesized (at 1 161)
+                                                                                                                                                (phrase.Arithmetic (phrase.Name (x 1 162 3)) (record {
+                                                                                                                                                  operator = operator.Add;
+                                                                                                                                                  operand = (phrase.Parenthesized (at 1 164) (phrase.Arithmetic
+                                                                                                                                                      (phrase.Name (x 1 165 3)) (record {
+                                                                                                                                                        operator = operator.Add;
+                                                                                                                                                        operand = (phrase.Parenthesized (at 1 167) (phrase.Arithmetic (phrase.Name (x 1 168
+                                                                                                                                                            3)) (record {
                                                                                                                                                               operator = operator.Add;
-                                                                                                                                                              operand
-                                                                                                                                                                  = (phrase.Parenthesized (at 1 176) (phrase.Arithmetic (phrase.Name (x 1 177 3)) (record {
-                                                                                                                                                                    operator = operator.Add;
-                                                                                                                                                                    operand = (phrase.Parenthesized
-                                                                                                                                                                        (at 1 179) (phrase.Arithmetic (phrase.Name (x 1 180 3)) (record {
-                                                                                                                                                                          operator = operator.Add;
-                                                                                                                                                                          operand = (phrase.Parenthesized (at 1 182)
-                                                                                                                                                                              (phrase.Arithmetic (phrase.Name (x 1 183 3)) (record {
-                                                                                                                                                                                operator = operator.Add;
-                                                                                                                                                                                operand = (phrase.Parenthesized (at 1 185) (phrase.Arithmetic
-                                                                                                                                                                                    (phrase.Name (x 1 186 3)) (record {
-                                                                                                                                                                                      operator = operator.Add;
-                                                                                                                                                                                      operand = (phrase.Parenthesized (at 1 188) (phrase.Arithmetic (phrase.Name (x 1 189
-                                                                                                                                                                                          3)) (record {
-                                                                                                                                                                                            operator = operator.Add;
-                                                                                                                                                                                            operand = (phrase.Parenthesized (at 1 191) (phrase.Arithmetic (phrase.Name (x 1 192 3)) (record {
-                                                                                                                                                                                              operator
-                                                                                                                                                                                                  = operator.Add;
-                                                                                                                                                                                              operand = (phrase.Parenthesized (at 1 194) (phrase.Arithmetic (phrase.Name (x 1 195 3)) (record {
+                                                                                                                                                              operand = (phrase.Parenthesized (at 1 170) (phrase.Arithmetic (phrase.Name (x 1 171 3)) (record {
+                                                                                                                                                                operator
+                                                                                                                                                                    = operator.Add;
+                                                                                                                                                                operand = (phrase.Parenthesized (at 1 173) (phrase.Arithmetic (phrase.Name (x 1 174 3)) (record {
+                                                                                                                                                                  operator = operator.Add;
+                                                                                                                                                                  operand
+                                                                                                                                                                      = (phrase.Parenthesized (at 1 176) (phrase.Arithmetic (phrase.Name (x 1 177 3)) (record {
+                                                                                                                                                                        operator = operator.Add;
+                                                                                                                                                                        operand = (phrase.Parenthesized
+                                                                                                                                                                            (at 1 179) (phrase.Arithmetic (phrase.Name (x 1 180 3)) (record {
+                                                                                                                                                                              operator = operator.Add;
+                                                                                                                                                                              operand = (phrase.Parenthesized (at 1 182)
+                                                                                                                                                                                  (phrase.Arithmetic (phrase.Name (x 1 183 3)) (record {
+                                                                                                                                                                                    operator = operator.Add;
+                                                                                                                                                                                    operand = (phrase.Parenthesized (at 1 185) (phrase.Arithmetic
+                                                                                                                                                                                        (phrase.Name (x 1 186 3)) (record {
+                                                                                                                                                                                          operator = operator.Add;
+                                                                                                                                                                                          operand = (phrase.Parenthesized (at 1 188) (phrase.Arithmetic (phrase.Name (x 1 189
+                                                                                                                                                                                              3)) (record {
                                                                                                                                                                                                 operator = operator.Add;
-                                                                                                                                                                                                operand
-                                                                                                                                                                                                    = (phrase.Parenthesized (at 1 197) (phrase.Arithmetic (phrase.Name (x 1 198 3)) (record {
-                                                                                                                                                                                                      operator = operator.Add;
-                                                                                                                                                                                                      operand = (phrase.Parenthesized
-                                                                                                                                                                                                          (at 1 200) (phrase.Arithmetic (phrase.Name (x 1 201 3)) (record {
-                                                                                                                                                                                                            operator = operator.Add;
-                                                                                                                                                                                                            operand = (phrase.Parenthesized (at 1 203)
-                                                                                                                                                                                                                (phrase.Arithmetic (phrase.Name (x 1 204 3)) (record {
-                                                                                                                                                                                                                  operator = operator.Add;
-                                                                                                                                                                                                                  operand = (phrase.Parenthesized (at 1 206) (phrase.Arithmetic
-                                                                                                                                                                                                                      (phrase.Name (x 1 207 3)) (record {
-                                                                                                                                                                                                                        operator = operator.Add;
-                                                                                                                                                                                                                        operand = (phrase.Parenthesized (at 1 209) (phrase.Arithmetic (phrase.Name (x 1 210
-                                                                                                                                                                                                                            3)) (record {
-                                                                                                                                                                                                                              operator = operator.Add;
-                                                                                                                                                                                                                              operand = (phrase.Parenthesized (at 1 212) (phrase.Arithmetic (phrase.Name (x 1 213 3)) (record {
-                                                                                                                                                                                                                                operator
-                                                                                                                                                                                                                                    = operator.Add;
-                                                                                                                                                                                                                                operand = (phrase.Parenthesized (at 1 215) (phrase.Arithmetic (phrase.Name (x 1 216 3)) (record {
+                                                                                                                                                                                                operand = (phrase.Parenthesized (at 1 191) (phrase.Arithmetic (phrase.Name (x 1 192 3)) (record {
+                                                                                                                                                                                                  operator
+                                                                                                                                                                                                      = operator.Add;
+                                                                                                                                                                                                  operand = (phrase.Parenthesized (at 1 194) (phrase.Arithmetic (phrase.Name (x 1 195 3)) (record {
+                                                                                                                                                                                                    operator = operator.Add;
+                                                                                                                                                                                                    operand
+                                                                                                                                                                                                        = (phrase.Parenthesized (at 1 197) (phrase.Arithmetic (phrase.Name (x 1 198 3)) (record {
+                                                                                                                                                                                                          operator = operator.Add;
+                                                                                                                                                                                                          operand = (phrase.Parenthesized
+                                                                                                                                                                                                              (at 1 200) (phrase.Arithmetic (phrase.Name (x 1 201 3)) (record {
+                                                                                                                                                                                                                operator = operator.Add;
+                                                                                                                                                                                                                operand = (phrase.Parenthesized (at 1 203)
+                                                                                                                                                                                                                    (phrase.Arithmetic (phrase.Name (x 1 204 3)) (record {
+                                                                                                                                                                                                                      operator = operator.Add;
+                                                                                                                                                                                                                      operand = (phrase.Parenthesized (at 1 206) (phrase.Arithmetic
+                                                                                                                                                                                                                          (phrase.Name (x 1 207 3)) (record {
+                                                                                                                                                                                                                            operator = operator.Add;
+                                                                                                                                                                                                                            operand = (phrase.Parenthesized (at 1 209) (phrase.Arithmetic (phrase.Name (x 1 210
+                                                                                                                                                                                                                                3)) (record {
                                                                                                                                                                                                                                   operator = operator.Add;
-                                                                                                                                                                                                                                  operand
-                                                                                                                                                                                                                                      = (phrase.Parenthesized (at 1 218) (phrase.Arithmetic (phrase.Name (x 1 219 3)) (record {
-                                                                                                                                                                                                                                        operator = operator.Add;
-                                                                                                                                                                                                                                        operand = (phrase.Parenthesized
-                                                                                                                                                                                                                                            (at 1 221) (phrase.Arithmetic (phrase.Name (x 1 222 3)) (record {
-                                                                                                                                                                                                                                              operator = operator.Add;
-                                                                                                                                                                                                                                              operand = (phrase.Parenthesized (at 1 224)
-                                                                                                                                                                                                                                                  (phrase.Arithmetic (phrase.Name (x 1 225 3)) (record {
-                                                                                                                                                                                                                                                    operator = operator.Add;
-                                                                                                                                                                                                                                                    operand = (phrase.Parenthesized (at 1 227) (phrase.Arithmetic
-                                                                                                                                                                                                                                                        (phrase.Name (x 1 228 3)) (record {
-                                                                                                                                                                                                                                                          operator = operator.Add;
-                                                                                                                                                                                                                                                          operand = (phrase.Parenthesized (at 1 230) (phrase.Arithmetic (phrase.Name (x 1 231
-                                                                                                                                                                                                                                                              3)) (record {
-                                                                                                                                                                                                                                                                operator = operator.Add;
-                                                                                                                                                                                                                                                                operand = (phrase.Parenthesized (at 1 233) (phrase.Arithmetic (phrase.Name (x 1 234 3)) (record {
-                                                                                                                                                                                                                                                                  operator
-                                                                                                                                                                                                                                                                      = operator.Add;
-                                                                                                                                                                                                                                                                  operand = (phrase.Parenthesized (at 1 236) (phrase.Arithmetic (phrase.Name (x 1 237 3)) (record {
+                                                                                                                                                                                                                                  operand = (phrase.Parenthesized (at 1 212) (phrase.Arithmetic (phrase.Name (x 1 213 3)) (record {
+                                                                                                                                                                                                                                    operator
+                                                                                                                                                                                                                                        = operator.Add;
+                                                                                                                                                                                                                                    operand = (phrase.Parenthesized (at 1 215) (phrase.Arithmetic (phrase.Name (x 1 216 3)) (record {
+                                                                                                                                                                                                                                      operator = operator.Add;
+                                                                                                                                                                                                                                      operand
+                                                                                                                                                                                                                                          = (phrase.Parenthesized (at 1 218) (phrase.Arithmetic (phrase.Name (x 1 219 3)) (record {
+                                                                                                                                                                                                                                            operator = operator.Add;
+                                                                                                                                                                                                                                            operand = (phrase.Parenthesized
+                                                                                                                                                                                                                                                (at 1 221) (phrase.Arithmetic (phrase.Name (x 1 222 3)) (record {
+                                                                                                                                                                                                                                                  operator = operator.Add;
+                                                                                                                                                                                                                                                  operand = (phrase.Parenthesized (at 1 224)
+                                                                                                                                                                                                                                                      (phrase.Arithmetic (phrase.Name (x 1 225 3)) (record {
+                                                                                                                                                                                                                                                        operator = operator.Add;
+                                                                                                                                                                                                                                                        operand = (phrase.Parenthesized (at 1 227) (phrase.Arithmetic
+                                                                                                                                                                                                                                                            (phrase.Name (x 1 228 3)) (record {
+                                                                                                                                                                                                                                                              operator = operator.Add;
+                                                                                                                                                                                                                                                              operand = (phrase.Parenthesized (at 1 230) (phrase.Arithmetic (phrase.Name (x 1 231
+                                                                                                                                                                                                                                                                  3)) (record {
                                                                                                                                                                                                                                                                     operator = operator.Add;
-                                                                                                                                                                                                                                                                    operand
-                                                                                                                                                                                                                                                                        = (phrase.Parenthesized (at 1 239) (phrase.Arithmetic (phrase.Name (x 1 240 3)) (record {
-                                                                                                                                                                                                                                                                          operator = operator.Add;
-                                                                                                                                                                                                                                                                          operand = (phrase.Parenthesized
-                                                                                                                                                                                                                                                                              (at 1 242) (phrase.Arithmetic (phrase.Name (x 1 243 3)) (record {
-                                                                                                                                                                                                                                                                                operator = operator.Add;
-                                                                                                                                                                                                                                                                                operand = (phrase.Parenthesized (at 1 245)
-                                                                                                                                                                                                                                                                                    (phrase.Arithmetic (phrase.Name (x 1 246 3)) (record {
-                                                                                                                                                                                                                                                                                      operator = operator.Add;
-                                                                                                                                                                                                                                                                                      operand = (phrase.Parenthesized (at 1 248) (phrase.Arithmetic
-                                                                                                                                                                                                                                                                                          (phrase.Name (x 1 249 3)) (record {
-                                                                                                                                                                                                                                                                                            operator = operator.Add;
-                                                                                                                                                                                                                                                                                            operand = (phrase.Parenthesized (at 1 251) (phrase.Arithmetic (phrase.Name (x 1 252
-                                                                                                                                                                                                                                                                                                3)) (record {
-                                                                                                                                                                                                                                                                                                  operator = operator.Add;
-                                                                                                                                                                                                                                                                                                  operand = (phrase.Parenthesized (at 1 254) (phrase.Arithmetic (phrase.Name (x 1 255 3)) (record {
-                                                                                                                                                                                                                                                                                                    operator
-                                                                                                                                                                                                                                                                                                        = operator.Add;
-                                                                                                                                                                                                                                                                                                    operand = (phrase.Parenthesized (at 1 257) (phrase.Arithmetic (phrase.Name (x 1 258 3)) (record {
+                                                                                                                                                                                                                                                                    operand = (phrase.Parenthesized (at 1 233) (phrase.Arithmetic (phrase.Name (x 1 234 3)) (record {
+                                                                                                                                                                                                                                                                      operator
+                                                                                                                                                                                                                                                                          = operator.Add;
+                                                                                                                                                                                                                                                                      operand = (phrase.Parenthesized (at 1 236) (phrase.Arithmetic (phrase.Name (x 1 237 3)) (record {
+                                                                                                                                                                                                                                                                        operator = operator.Add;
+                                                                                                                                                                                                                                                                        operand
+                                                                                                                                                                                                                                                                            = (phrase.Parenthesized (at 1 239) (phrase.Arithmetic (phrase.Name (x 1 240 3)) (record {
+                                                                                                                                                                                                                                                                              operator = operator.Add;
+                                                                                                                                                                                                                                                                              operand = (phrase.Parenthesized
+                                                                                                                                                                                                                                                                                  (at 1 242) (phrase.Arithmetic (phrase.Name (x 1 243 3)) (record {
+                                                                                                                                                                                                                                                                                    operator = operator.Add;
+                                                                                                                                                                                                                                                                                    operand = (phrase.Parenthesized (at 1 245)
+                                                                                                                                                                                                                                                                                        (phrase.Arithmetic (phrase.Name (x 1 246 3)) (record {
+                                                                                                                                                                                                                                                                                          operator = operator.Add;
+                                                                                                                                                                                                                                                                                          operand = (phrase.Parenthesized (at 1 248) (phrase.Arithmetic
+                                                                                                                                                                                                                                                                                              (phrase.Name (x 1 249 3)) (record {
+                                                                                                                                                                                                                                                                                                operator = operator.Add;
+                                                                                                                                                                                                                                                                                                operand = (phrase.Parenthesized (at 1 251) (phrase.Arithmetic (phrase.Name (x 1 252
+                                                                                                                                                                                                                                                                                                    3)) (record {
                                                                                                                                                                                                                                                                                                       operator = operator.Add;
-                                                                                                                                                                                                                                                                                                      operand
-                                                                                                                                                                                                                                                                                                          = (phrase.Parenthesized (at 1 260) (phrase.Arithmetic (phrase.Name (x 1 261 3)) (record {
-                                                                                                                                                                                                                                                                                                            operator = operator.Add;
-                                                                                                                                                                                                                                                                                                            operand = (phrase.Parenthesized
-                                                                                                                                                                                                                                                                                                                (at 1 263) (phrase.Arithmetic (phrase.Name (x 1 264 3)) (record {
-                                                                                                                                                                                                                                                                                                                  operator = operator.Add;
-                                                                                                                                                                                                                                                                                                                  operand = (phrase.Parenthesized (at 1 266)
-                                                                                                                                                                                                                                                                                                                      (phrase.Arithmetic (phrase.Name (x 1 267 3)) (record {
-                                                                                                                                                                                                                                                                                                                        operator = operator.Add;
-                                                                                                                                                                                                                                                                                                                        operand = (phrase.Parenthesized (at 1 269) (phrase.Arithmetic
-                                                                                                                                                                                                                                                                                                                            (phrase.Name (x 1 270 3)) (record { operator = operator.Add; operand = (phrase.Parenthesized (at 1 272) (phrase.Name (x 1 273 3))) } ∷ [])));
-                                                                                                                                                                                                                                                                                                                      } ∷
-                                                                                                                                                                                                                                                                                                                      [])));
-                                                                                                                                                                                                                                                                                                                } ∷ [])));
-                                                                                                                                                                                                                                                                                                          } ∷ [])));
+                                                                                                                                                                                                                                                                                                      operand = (phrase.Parenthesized (at 1 254) (phrase.Arithmetic (phrase.Name (x 1 255 3)) (record {
+                                                                                                                                                                                                                                                                                                        operator
+                                                                                                                                                                                                                                                                                                            = operator.Add;
+                                                                                                                                                                                                                                                                                                        operand = (phrase.Parenthesized (at 1 257) (phrase.Arithmetic (phrase.Name (x 1 258 3)) (record {
+                                                                                                                                                                                                                                                                                                          operator = operator.Add;
+                                                                                                                                                                                                                                                                                                          operand
+                                                                                                                                                                                                                                                                                                              = (phrase.Parenthesized (at 1 260) (phrase.Arithmetic (phrase.Name (x 1 261 3)) (record {
+                                                                                                                                                                                                                                                                                                                operator = operator.Add;
+                                                                                                                                                                                                                                                                                                                operand = (phrase.Parenthesized
+                                                                                                                                                                                                                                                                                                                    (at 1 263) (phrase.Arithmetic (phrase.Name (x 1 264 3)) (record {
+                                                                                                                                                                                                                                                                                                                      operator = operator.Add;
+                                                                                                                                                                                                                                                                                                                      operand = (phrase.Parenthesized (at 1 266)
+                                                                                                                                                                                                                                                                                                                          (phrase.Arithmetic (phrase.Name (x 1 267 3)) (record {
+                                                                                                                                                                                                                                                                                                                            operator = operator.Add;
+                                                                                                                                                                                                                                                                                                                            operand = (phrase.Parenthesized (at 1 269) (phrase.Arithmetic
+                                                                                                                                                                                                                                                                                                                                (phrase.Name (x 1 270 3)) (record { operator = operator.Add; operand = (phrase.Parenthesized (at 1 272) (phrase.Name (x 1 273 3))) } ∷ [])));
+                                                                                                                                                                                                                                                                                                                          } ∷
+                                                                                                                                                                                                                                                                                                                          [])));
+                                                                                                                                                                                                                                                                                                                    } ∷ [])));
+                                                                                                                                                                                                                                                                                                              } ∷ [])));
+                                                                                                                                                                                                                                                                                                        } ∷ [])));
+                                                                                                                                                                                                                                                                                                      } ∷ [])));
                                                                                                                                                                                                                                                                                                     } ∷ [])));
-                                                                                                                                                                                                                                                                                                  } ∷ [])));
-                                                                                                                                                                                                                                                                                                } ∷ [])));
-                                                                                                                                                                                                                                                                                          } ∷ [])));
-                                                                                                                                                                                                                                                                                    } ∷ [])));
-                                                                                                                                                                                                                                                                              } ∷ [])));
-                                                                                                                                                                                                                                                                        } ∷ [])));
+                                                                                                                                                                                                                                                                                              } ∷ [])));
+                                                                                                                                                                                                                                                                                        } ∷ [])));
+                                                                                                                                                                                                                                                                                  } ∷ [])));
+                                                                                                                                                                                                                                                                            } ∷ [])));
+                                                                                                                                                                                                                                                                      } ∷ [])));
+                                                                                                                                                                                                                                                                    } ∷ [])));
                                                                                                                                                                                                                                                                   } ∷ [])));
-                                                                                                                                                                                                                                                                } ∷ [])));
-                                                                                                                                                                                                                                                              } ∷ [])));
-                                                                                                                                                                                                                                                        } ∷ [])));
-                                                                                                                                                                                                                                                  } ∷ [])));
-                                                                                                                                                                                                                                            } ∷ [])));
-                                                                                                                                                                                                                                      } ∷ [])));
+                                                                                                                                                                                                                                                            } ∷ [])));
+                                                                                                                                                                                                                                                      } ∷ [])));
+                                                                                                                                                                                                                                                } ∷ [])));
+                                                                                                                                                                                                                                          } ∷ [])));
+                                                                                                                                                                                                                                    } ∷ [])));
+                                                                                                                                                                                                                                  } ∷ [])));
                                                                                                                                                                                                                                 } ∷ [])));
-                                                                                                                                                                                                                              } ∷ [])));
-                                                                                                                                                                                                                            } ∷ [])));
-                                                                                                                                                                                                                      } ∷ [])));
-                                                                                                                                                                                                                } ∷ [])));
-                                                                                                                                                                                                          } ∷ [])));
-                                                                                                                                                                                                    } ∷ [])));
+                                                                                                                                                                                                                          } ∷ [])));
+                                                                                                                                                                                                                    } ∷ [])));
+                                                                                                                                                                                                              } ∷ [])));
+                                                                                                                                                                                                        } ∷ [])));
+                                                                                                                                                                                                  } ∷ [])));
+                                                                                                                                                                                                } ∷ [])));
                                                                                                                                                                                               } ∷ [])));
-                                                                                                                                                                                            } ∷ [])));
-                                                                                                                                                                                          } ∷ [])));
-                                                                                                                                                                                    } ∷ [])));
-                                                                                                                                                                              } ∷ [])));
-                                                                                                                                                                        } ∷
-                                                                                                                                                                        [])));
-                                                                                                                                                                  } ∷ [])));
+                                                                                                                                                                                        } ∷ [])));
+                                                                                                                                                                                  } ∷ [])));
+                                                                                                                                                                            } ∷
+                                                                                                                                                                            [])));
+                                                                                                                                                                      } ∷ [])));
+                                                                                                                                                                } ∷ [])));
+                                                                                                                                                              } ∷ [])));
                                                                                                                                                             } ∷ [])));
-                                                                                                                                                          } ∷ [])));
-                                                                                                                                                        } ∷ [])));
-                                                                                                                                                  } ∷ [])));
-                                                                                                                                            } ∷ [])));
-                                                                                                                                      } ∷ [])));
-                                                                                                                                } ∷ [])));
+                                                                                                                                                      } ∷ [])));
+                                                                                                                                                } ∷ [])));
+                                                                                                                                          } ∷ [])));
+                                                                                                                                    } ∷ [])));
+                                                                                                                              } ∷ [])));
+                                                                                                                            } ∷ [])));
                                                                                                                           } ∷ [])));
-                                                                                                                        } ∷ [])));
-                                                                                                                      } ∷ [])));
-                                                                                                                } ∷ [])));
-                                                                                                          } ∷ [])));
-                                                                                                    } ∷ [])));
-                                                                                              } ∷ [])));
+                                                                                                                    } ∷ [])));
+                                                                                                              } ∷ [])));
+                                                                                                        } ∷ [])));
+                                                                                                  } ∷ [])));
+                                                                                            } ∷ [])));
+                                                                                          } ∷ [])));
                                                                                         } ∷ [])));
-                                                                                      } ∷ [])));
-                                                                                    } ∷ [])));
-                                                                              } ∷ [])));
-                                                                        } ∷ [])));
-                                                                  } ∷ [])));
-                                                            } ∷ [])));
+                                                                                  } ∷ [])));
+                                                                            } ∷ [])));
+                                                                      } ∷ [])));
+                                                                } ∷ [])));
+                                                          } ∷ [])));
+                                                        } ∷ [])));
                                                       } ∷ [])));
-                                                    } ∷ [])));
-                                                  } ∷ [])));
-                                            } ∷ [])));
-                                      } ∷ [])));
-                                } ∷ [])));
-                          } ∷
-                              [])));
-                        } ∷ [])));
-                      } ∷ [])));
+                                                } ∷ [])));
+                                          } ∷ [])));
+                                    } ∷ [])));
+                              } ∷
+                                  [])));
+                            } ∷ [])));
+                          } ∷ [])));
                     } ∷ [])));
               } ∷ []));
         } ∷ []);
@@ -1259,16 +1257,16 @@ text8 = (
   record {
     names = 4;
     formats = [];
-    items = (item.Specification (x 1 14 2) [] (record {
+    items = (item.Specification (x 1 14 1) [] (record {
       result = (Some (type_name.Void (at 1 26)));
       name = (x 1 31
-          1);
+          2);
       parameters = ((type_name.Number numeric.Int) ∷ []);
-    } ∷ []) ∷ item.Body (x 1 57 2) [] ((statement.Accept (record {
+    } ∷ []) ∷ item.Body (x 1 57 1) [] ((statement.Accept (record {
       head = record {
         place = (at
             1 63);
-        name = (x 1 70 1);
+        name = (x 1 70 2);
         names = ((x 1 72 3) ∷ []);
         clauses = (record {
           word = clause_word.By;

@@ -2,6 +2,8 @@
 #![tactic(auto)]
 
 ghost use Rattle.types_tests.specs.Seen.{Hold};
+ghost use Rattle.types_tests.specs.Parsed.{rows as parsed_rows};
+ghost use Rattle.types_tests.specs.Trees.{HaveTrees};
 ghost use Rattle.types_tests.specs.Texts00.{rows as rows_00};
 ghost use Rattle.types_tests.specs.Texts01.{rows as rows_01};
 ghost use Rattle.types_tests.specs.Texts02.{rows as rows_02};
@@ -129,6 +131,11 @@ fn texts_8()
     ensures text46 { Hold rows_46 }
 {}
 
+/// Texts as tokens, with their plain trees.
+fn plain_trees()
+    ensures trees { HaveTrees parsed_rows }
+{}
+
 #[test]
 fn first_faults() {
     texts_1();
@@ -139,4 +146,9 @@ fn first_faults() {
     texts_6();
     texts_7();
     texts_8();
+}
+
+#[test]
+fn trees_of_texts() {
+    plain_trees();
 }
