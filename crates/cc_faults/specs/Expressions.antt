@@ -252,7 +252,7 @@ module _ (t : Text) (s : Scope) (w : Around) where
   unfoldable mutual
     pub expression : Phrase → Judged Found
     expression (Number p v n) = Good (constant v n)
-    expression (Name x) = checked (visible x (meaning_at s x)) (value_named_by s x.place)
+    expression (Name x) = checked (visible x (meaning_at s x)) (value_named_by s.variables x.place)
     expression (parenthesized p e) = map within_parentheses (expression e)
     expression (Chain' _ (more_of-Phrase e end_of-Phrase) _ steps) =
         along (place_of e) (is_place s e) (expression e) steps

@@ -3,7 +3,7 @@
 -- fault. `Expressions`, `Statements`, `Declarations` and `Programs` say of which phrases.
 use Rattle.std.specs.Prelude.{ℕ, ℤ, pos, nat_abs, int_le, Bool, true, false, not, ◌&&◌, ◌||◌, if◌then◌else◌, nat_eq, nat_le, List, [], ◌∷◌, Option, Some, None, Result, Err, slice_get}
 use Rattle.cc_base.specs.Formats.{is_format}
-use Rattle.cc_base.specs.Limits.{most_parameter_cells, most_pure_depth, most_type_cells}
+use Rattle.cc_base.specs.Limits.{most_elements, most_parameter_cells, most_pure_depth, most_type_cells}
 use Rattle.cc_base.specs.Numbers.{fits}
 use Rattle.cc_base.specs.declared.names.Place.{Place}
 use Rattle.cc_base.specs.declared.numbers.Comparison.{Comparison}
@@ -95,7 +95,7 @@ value_type s t = written s t
 
 -- ---- 6 BadLength: a number outside 1 to 65,536, or a name that is no constant
 abbrev pub length_in_range : Place → ℤ → Judged ℕ
-length_in_range p n = unless (int_le (pos 1) n && int_le n (pos most_type_cells)) p kind.BadLength (nat_abs n)
+length_in_range p n = unless (int_le (pos 1) n && int_le n (pos most_elements)) p kind.BadLength (nat_abs n)
 
 abbrev pub length_named : Place → Meaning → Judged ℕ
 length_named p (meaning.Constant n) = length_in_range p n
@@ -217,12 +217,12 @@ abbrev pub type_or_void : Option DataType → DataType
 type_or_void None = Void
 type_or_void (Some t) = t
 
-abbrev pub value_named_by : Scope → Place → Meaning → Judged Found
-value_named_by s p (meaning.Variable n) = Good (variable n (type_or_void (slice_get s.variables n)))
-value_named_by s p (meaning.Constant n) = Good (found.Value (expression.Constant n numeric.Int))
-value_named_by s p (meaning.Typeless f) = known (Err f)
-value_named_by s p (meaning.Valueless f) = known (Err f)
-value_named_by s p _ = fault p kind.NotAValue
+abbrev pub value_named_by : List DataType → Place → Meaning → Judged Found
+value_named_by variables p (meaning.Variable n) = Good (variable n (type_or_void (slice_get variables n)))
+value_named_by variables p (meaning.Constant n) = Good (found.Value (expression.Constant n numeric.Int))
+value_named_by variables p (meaning.Typeless f) = known (Err f)
+value_named_by variables p (meaning.Valueless f) = known (Err f)
+value_named_by variables p _ = fault p kind.NotAValue
 
 -- ---- 18 UnknownField
 abbrev pub names_of : Option (List ℕ) → List ℕ

@@ -21,4 +21,4 @@ unfolding program sorted first faults answer map checked both asked each each_af
     is_place depth_of type_of type_after element_within is_int is_format conversions E.shape-the_row-Phrase-1 E.hidden-the_row-Phrase-0 E.hidden-the_row-Phrase-1
     E.hidden-the_row-Step-2 E.hidden-the_row-Operation-3 E.hidden-the_row-Compared-4 S.hidden-the_row-Statement-0 S.shape-the_row-Statement-1
     S.hidden-the_row-Statement-1 S.hidden-the_row-Alternative-2 hidden
-hold = (refl, (refl, (refl, (refl, (refl, (refl, (refl, (refl, tt))))))))
+hold = (refl, (refl, (refl, (refl, (refl, (refl, (refl, (refl, (refl, (refl, tt))))))))))

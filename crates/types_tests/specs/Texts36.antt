@@ -5,6 +5,7 @@ use Rattle.cc_base.specs.declared.numbers.Operator.TheVariants as operator
 use Rattle.cc_faults.specs.declared.fault.TypeKind.TheVariants as kind
 use Rattle.cc_faults.specs.declared.plain.ClauseWord.TheVariants as clause_word
 use Rattle.cc_faults.specs.declared.plain.Item.TheVariants as item
+use Rattle.cc_faults.specs.declared.plain.Length.TheVariants as some_length
 use Rattle.cc_faults.specs.declared.plain.Phrase.TheVariants as phrase
 use Rattle.cc_faults.specs.declared.plain.Statement.TheVariants as statement
 use Rattle.cc_faults.specs.declared.plain.Step.TheVariants as step
@@ -210,5 +211,57 @@ text7 = (
   Some (fault_at 1 71 kind.LeavesAccept),
 )
 
+-- struct s { int a[257]; }; process spec p() { trans void t(); trans void t(struct s x); }; process body p() { } main() { }
+abbrev text8 : Row
+text8 = (
+  record {
+    names = 5;
+    formats = [];
+    items = (item.Structure (x 1 8 1) (record {
+      of = (type_name.Number numeric.Int);
+      name = (x 1 16 2);
+      length =
+          (Some (some_length.Number (at 1 18) (pos 257)));
+    } ∷ []) ∷ item.Specification (x 1 40 3) [] (record {
+      result = (Some (type_name.Void (at 1 52)));
+      name = (x 1 57 4);
+      parameters = [];
+    } ∷ record {
+      result = (Some (type_name.Void (at 1 68)));
+      name = (x 1 73 4);
+      parameters = ((type_name.Structure
+          (x 1 82 1)) ∷ []);
+    } ∷ []) ∷ item.Body (x 1 104 3) [] [] ∷ item.Function (type_name.Number numeric.Int) (x 1 112 0) [] [] ∷ []);
+  },
+  Some (fault_at 1
+      73 kind.Duplicate),
+)
+
+-- struct s { int a[2]; }; struct t { int a; struct s a[65536]; }; main() { }
+abbrev text9 : Row
+text9 = (
+  record {
+    names = 4;
+    formats = [];
+    items = (item.Structure (x 1 8 1) (record {
+      of = (type_name.Number numeric.Int);
+      name = (x 1 16 2);
+      length =
+          (Some (some_length.Number (at 1 18) (pos 2)));
+    } ∷ []) ∷ item.Structure (x 1 32 3) (record {
+      of = (type_name.Number numeric.Int);
+      name = (x 1 40
+          2);
+      length = None;
+    } ∷ record {
+      of = (type_name.Structure (x 1 50 1));
+      name = (x 1 52 2);
+      length = (Some (some_length.Number (at 1 54) (pos
+          65536)));
+    } ∷ []) ∷ item.Function (type_name.Number numeric.Int) (x 1 65 0) [] [] ∷ []);
+  },
+  Some (fault_at 1 52 kind.Duplicate),
+)
+
 abbrev pub rows : List Row
-rows = text0 ∷ text1 ∷ text2 ∷ text3 ∷ text4 ∷ text5 ∷ text6 ∷ text7 ∷ []
+rows = text0 ∷ text1 ∷ text2 ∷ text3 ∷ text4 ∷ text5 ∷ text6 ∷ text7 ∷ text8 ∷ text9 ∷ []
