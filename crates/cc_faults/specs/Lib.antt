@@ -1,0 +1,12 @@
+pub mod Faults
+pub mod Judged
+pub mod Sorted
+pub mod Scopes
+pub mod Phrases
+pub mod Made
+pub mod Depths
+pub mod Rows
+pub mod Expressions
+pub mod Statements
+pub mod Declarations
+pub mod Programs

@@ -1,0 +1,4 @@
+pub mod Names
+pub mod Mentions
+pub mod Plains
+pub mod Laws
