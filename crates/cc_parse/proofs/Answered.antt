@@ -1,6 +1,6 @@
 -- What a reader of texts found is what a parser is to answer.
 use Rattle.std.proofs.Common.{◌≡◌, ℕ, ◌-◌, ◌≤◌, List, [], ◌∷◌, ◌++◌, length, refl, sym, subst, ap, arith, length-append}
-use Rattle.std.specs.Prelude.{¬◌, Ok}
+use Rattle.std.specs.Prelude.{Ok}
 use Rattle.cc_lex.specs.TokenList.{TokenList}
 use Rattle.cc_lex.specs.declared.token.Token.{Token}
 use Rattle.cc_grammar.specs.Ebnf.{ref}

@@ -131,4 +131,14 @@ impl<
             block,
         })
     }
+
+    /// The same in a box.
+    pub fn boxed_accept(&self, tokens: &mut Cursor<'_>) -> Result<Boxed<Accept>, Stop>
+        requires assigns { Nests the.assign self.now.operands.simple.room (A.pre self.now.operands.assign) (A.post self.now.operands.assign) }
+        requires statements { Nests the.statement self.now.operands.simple.room (S.pre self.now.statement) (S.post self.now.statement) }
+        ensures { Reads (symbol self.now.operands.simple.room the.accept tokens.old) result tokens.new }
+    {
+        let accept = self.accept(tokens)?;
+        Ok(Boxed::new(self.operands.simple.alloc, accept)?)
+    }
 }

@@ -12,7 +12,7 @@ use crate::statements::Statements;
 use cc_expressions::{Cursor, Stop, before, key, sign};
 use cc_grammar::{Alternative, Choice, Entry, Expression, Statement};
 use cc_lex::{Mark, Word};
-use sqlite_items::Items;
+use sqlite_items::{Boxed, Items};
 use std::alloc::Global;
 
 impl<
@@ -25,9 +25,9 @@ impl<
         requires statements { Nests the.statement self.now.operands.simple.room (S.pre self.now.statement) (S.post self.now.statement) }
         ensures { Reads (symbol self.now.operands.simple.room the.accept_choice tokens.old) result tokens.new }
     {
-        let accept = self.accept(tokens)?;
+        let accept = self.boxed_accept(tokens)?;
         let entries = self.entries(tokens)?;
-        Ok(Choice::Accept(accept, entries))
+        Ok(Choice::Accept(accept.into_inner(), entries))
     }
 
     #[tactic(auto, using(crate::proofs::Expand::delay_rest_is))]
@@ -100,6 +100,15 @@ impl<
         Ok(guard)
     }
 
+    /// The same in a box.
+    fn boxed_guard(&self, tokens: &mut Cursor<'_>) -> Result<Boxed<Expression>, Stop>
+        requires assigns { Nests the.assign self.now.operands.simple.room (A.pre self.now.operands.assign) (A.post self.now.operands.assign) }
+        ensures { Reads (symbol self.now.operands.simple.room the.guard tokens.old) result tokens.new }
+    {
+        let guard = self.guard(tokens)?;
+        Ok(Boxed::new(self.operands.simple.alloc, guard)?)
+    }
+
     #[tactic(auto, using(crate::proofs::Expand::alternative_is))]
     fn alternative(&self, tokens: &mut Cursor<'_>) -> Result<Alternative, Stop>
         requires assigns { Nests the.assign self.now.operands.simple.room (A.pre self.now.operands.assign) (A.post self.now.operands.assign) }
@@ -107,10 +116,10 @@ impl<
         ensures { Reads (symbol self.now.operands.simple.room the.alternative tokens.old) result tokens.new }
     {
         if tokens.sees(sign(Mark::OpenParenthesis)) {
-            let guard = self.guard(tokens)?;
+            let guard = self.boxed_guard(tokens)?;
             let choice = self.choice(tokens)?;
             Ok(Alternative {
-                guard: Some(guard),
+                guard: Some(guard.into_inner()),
                 choice,
             })
         } else {
@@ -120,6 +129,16 @@ impl<
                 choice,
             })
         }
+    }
+
+    /// The same in a box.
+    fn boxed_alternative(&self, tokens: &mut Cursor<'_>) -> Result<Boxed<Alternative>, Stop>
+        requires assigns { Nests the.assign self.now.operands.simple.room (A.pre self.now.operands.assign) (A.post self.now.operands.assign) }
+        requires statements { Nests the.statement self.now.operands.simple.room (S.pre self.now.statement) (S.post self.now.statement) }
+        ensures { Reads (symbol self.now.operands.simple.room the.alternative tokens.old) result tokens.new }
+    {
+        let alternative = self.alternative(tokens)?;
+        Ok(Boxed::new(self.operands.simple.alloc, alternative)?)
     }
 
     #[tactic(auto, using(crate::proofs::Expand::next_alternative_is))]
@@ -154,9 +173,9 @@ impl<
         requires statements { Nests the.statement self.now.operands.simple.room (S.pre self.now.statement) (S.post self.now.statement) }
         ensures { Reads (symbol self.now.operands.simple.room the.alternatives tokens.old) result tokens.new }
     {
-        let first = self.alternative(tokens)?;
+        let first = self.boxed_alternative(tokens)?;
         let others = self.next_alternatives(tokens)?;
-        Ok(before(self.operands.simple.alloc, first, others)?)
+        Ok(before(self.operands.simple.alloc, first.into_inner(), others)?)
     }
 
     #[tactic(auto, using(crate::proofs::Expand::closed_alternatives_is))]

@@ -101,8 +101,8 @@ impl<
         if tokens.sees(key(Word::Delay)) {
             self.delay_statement(tokens)
         } else if tokens.sees(key(Word::Accept)) {
-            let accept = self.accept(tokens)?;
-            Ok(Statement::Accept(Boxed::new(self.operands.simple.alloc, accept)?))
+            let accept = self.boxed_accept(tokens)?;
+            Ok(Statement::Accept(accept))
         } else {
             self.select_statement(tokens)
         }

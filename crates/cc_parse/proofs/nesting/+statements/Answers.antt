@@ -3,5 +3,5 @@ use Rattle.cc_grammar.specs.Symbols as the
 use Rattle.cc_grammar.proofs.Equations.{level_step}
 use Rattle.cc_parse.proofs.nesting.+statements.Goals as goal
 
-pub statement-returns : goal.statement-returns
-statement-returns t c = rw (level_step c.args.room the.statement c.args.tokens.now (omega arith)) c.statement.ensures
+pub returns : goal.returns
+returns t c = rw (level_step c.args.room the.statement c.args.tokens.now (omega arith)) c.statement.ensures
