@@ -3,6 +3,9 @@ use Rattle.cc_pool.proofs.Begun.{empty-run, kernel-run}
 use Rattle.cc_pool.proofs.Unfinished.{print-incomplete}
 use Rattle.cc_pool.proofs.driving.drive.Goals as goal
 
+pub run_on-stop-requires-clause-no_deadline : goal.run_on-stop-requires-clause-no_deadline
+run_on-stop-requires-clause-no_deadline g c = rw c.in-Ok.ensures.code c.requires.no_deadline
+
 pub returns-in_default-clause-run : goal.returns-in_default-clause-run
 returns-in_default-clause-run g c =
     let m = g.B.Behave.means c.args.code.now.value in
