@@ -1,14 +1,13 @@
 -- What an instruction of the loop does with the lists is what it does in code.
-use Rattle.std.proofs.Common.{◌≡◌, ℕ, ℤ, pos, negsuc, zero, suc, ◌+◌, ◌-◌, ◌*◌, ◌<◌, ◌≤◌, ◌⊎◌, inl, inr, Bool, true, false, List, [], ◌∷◌, ◌++◌, append-nil, append_assoc, add-zero, length, length-append, drop, take, replicate, get_or, slice_get, Option, Some, None, Result, Ok, Err, refl, sym, ◌∙◌, ap, subst, arith, add-one}
+use Rattle.std.proofs.Common.{◌≡◌, ℕ, ℤ, pos, negsuc, zero, suc, ◌+◌, ◌-◌, ◌*◌, ◌<◌, ◌≤◌, Bool, true, false, List, [], ◌∷◌, ◌++◌, append-nil, append_assoc, add-zero, length, drop, take, replicate, get_or, Option, Some, None, Result, Ok, Err, refl, sym, ◌∙◌, ap, subst, arith, add-one}
 use Rattle.std.specs.Prelude.{nat_le, slice_set, if◌then◌else◌}
 use Rattle.std.proofs.lemmas.Bool.Decides.{nat_tests}
 use Rattle.std.proofs.lemmas.Grind.{common_steps}
 use Rattle.std.proofs.Math.Seq.{take-add}
 use Rattle.std.proofs.lemmas.List.{length-replicate, set_split, take-append-drop}
 use Rattle.cc_base.specs.Granted.{or_fault}
-use Rattle.cc_base.specs.Limits.{most_steps, ticks_granted}
-use Rattle.cc_base.specs.Numbers.{and_with, at_zero, compared, converted, indexed, logical_not, operated, opposite, truth, updated}
-use Rattle.cc_base.specs.Outcome.{Left, Outcome, Through, Asked, Eval, and_then, spent}
+use Rattle.cc_base.specs.Numbers.{at_zero, compared, converted, indexed, logical_not, operated, opposite, truth, updated}
+use Rattle.cc_base.specs.Outcome.{Left, Outcome, Through, Asked, and_then, spent}
 use Rattle.cc_base.specs.declared.alternatives.Alt.{Alt}
 use Rattle.cc_base.specs.declared.names.FaultKind.{FaultKind}
 use Rattle.cc_base.specs.declared.names.FaultKind.TheVariants.{Index}
@@ -19,20 +18,19 @@ use Rattle.cc_base.specs.declared.numbers.Operator.TheVariants.{Add, Subtract, M
 use Rattle.cc_base.specs.declared.request.Grant.{Grant}
 use Rattle.cc_base.specs.declared.request.Request.TheVariants as request
 use Rattle.cc_code.specs.Operands.{gives, takes}
-use Rattle.cc_code.specs.Steps as steps
-use Rattle.cc_code.specs.Steps.{Asks, State, Stepped, Goes, Stops, after, performed, popped, renews, with_grants, worked, worked_on}
-use Rattle.cc_code.specs.Works.{Next, Store, at_offset, bumped, bumped_in, bumped_to, element, element_cells, element_offset, fetched, fetched_in, first, further, go_to, index_fault, is_within, on_after, on_with, on_with_cells, picked, second, stored, stored_in, with_cells, works}
+use Rattle.cc_code.specs.Steps.{Asks, State, Goes, Stops, after, performed, popped, renews, with_grants, worked, worked_on}
+use Rattle.cc_code.specs.Works.{Next, Store, bumped_in, bumped_to, element_cells, fetched_in, further, go_to, index_fault, is_within, on_with, stored_in, with_cells, works}
 use Rattle.cc_code.specs.declared.code.RawCode.{RawCode}
 use Rattle.cc_code.specs.declared.instr.Instr.{Instr}
 use Rattle.cc_code.specs.declared.instr.Instr.TheVariants as instr
-use Rattle.cc_vm.proofs.Between.{below-put, between-one, between-put, between-split, between-two, drop-cell, length-between, length-with, set-with, variable-at, variables-at, variables-put}
+use Rattle.cc_vm.proofs.Between.{below-put, between-one, between-put, between-split, between-two, drop-cell, length-between, length-with, set-with, variable-at, variables-put}
 use Rattle.cc_vm.proofs.Fragments.{element-is, popped-is}
 use Rattle.cc_vm.specs.Fragments.{element_at}
 use Rattle.cc_vm.specs.Machine.{Acts, Bumps, Clears, Fetches, PicksAt, Puts, PutsIf, Replaces, Stores, Ticks, Updates, between, callers, cell_of, located, located_if, moved, state_of}
 use Rattle.cc_vm.specs.declared.registers.Frame.{Frame}
 use Rattle.cc_vm.specs.declared.registers.Registers.{Registers}
 use Rattle.cc_vm.specs.declared.registers.Stop.{Stop}
-use Rattle.cc_vm.specs.declared.registers.Stop.TheVariants.{Fault, Other, Room}
+use Rattle.cc_vm.specs.declared.registers.Stop.TheVariants.{Fault}
 
 -- what stays of the lists and the registers
 pub record Keeps (S C : List ℤ) (r : Registers) (S' C' : List ℤ) (r' : Registers) : Type 0 where

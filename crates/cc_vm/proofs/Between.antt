@@ -1,8 +1,8 @@
 -- Cells between places of a list, and what writing cells into the list makes of them.
-use Rattle.std.proofs.Common.{◌≡◌, ℕ, ℤ, pos, zero, suc, ◌+◌, ◌-◌, ◌<◌, ◌≤◌, List, [], ◌∷◌, ◌++◌, append_assoc, append-nil, add_assoc, length, length-append, drop, take, get_or, drop-cons, refl, sym, ◌∙◌, ap, subst, arith, add-one}
+use Rattle.std.proofs.Common.{◌≡◌, ℕ, ℤ, pos, suc, ◌+◌, ◌-◌, ◌<◌, ◌≤◌, List, [], ◌∷◌, ◌++◌, append_assoc, add_assoc, length, length-append, drop, take, drop-cons, sym, ◌∙◌, ap, arith, add-one}
 use Rattle.std.specs.Prelude.{slice_set}
 use Rattle.std.proofs.Math.Seq.{take-append-add}
-use Rattle.std.proofs.lemmas.List.{drop-append-le, drop-drop, drop-take, drop_at, set_split, take-append-drop, take-append-le, take-take, take_at}
+use Rattle.std.proofs.lemmas.List.{drop-append-le, drop-drop, drop-take, set_split, take-append-drop, take-append-le, take-take, take_at}
 use Rattle.std.proofs.lemmas.Grind.{common_steps}
 use Rattle.cc_code.specs.Works.{with_cells}
 use Rattle.cc_vm.specs.Machine.{between, cell_of}

@@ -3,7 +3,7 @@ use Rattle.std.proofs.Common.{◌≡◌, ℕ, ℤ, ◌+◌, ◌-◌, ◌<◌, �
 use Rattle.std.proofs.lemmas.Option.{slice_get_cases}
 use Rattle.cc_base.specs.Limits.{most_instructions, most_pure_depth}
 use Rattle.cc_code.specs.Operands.{gives, takes}
-use Rattle.cc_code.specs.Rules.{IsAddress, IsPure, IsVerified, KeepsAt, height_at, rest_at}
+use Rattle.cc_code.specs.Rules.{IsAddress, IsPure, IsVerified, height_at, rest_at}
 use Rattle.cc_code.specs.declared.code.RawCode.{RawCode}
 use Rattle.cc_code.specs.declared.instr.Instr.{Instr}
 use Rattle.cc_code.specs.declared.instr.Instr.TheVariants as instr

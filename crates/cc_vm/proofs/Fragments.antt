@@ -7,10 +7,9 @@ use Rattle.std.proofs.lemmas.Option.{slice_get_cases, slice_get_past}
 use Rattle.cc_base.specs.Granted.{or_fault}
 use Rattle.cc_base.specs.Limits.{most_instructions, most_steps}
 use Rattle.cc_base.specs.Numbers.{and_with, at_zero, compared, converted, indexed, logical_not, operated, opposite, truth}
-use Rattle.cc_base.specs.Outcome.{Left, Outcome, Through, Asked, Eval, and_then}
+use Rattle.cc_base.specs.Outcome.{Left, Outcome, and_then}
 use Rattle.cc_base.specs.declared.names.FaultKind.{FaultKind}
-use Rattle.cc_base.specs.declared.names.FaultKind.TheVariants.{Depth, Index}
-use Rattle.cc_base.specs.declared.numbers.Comparison.{Comparison}
+use Rattle.cc_base.specs.declared.names.FaultKind.TheVariants.{Depth}
 use Rattle.cc_base.specs.declared.numbers.Comparison.TheVariants.{Less, AtMost, Greater, AtLeast, Equal, Different}
 use Rattle.cc_base.specs.declared.numbers.NumberType.TheVariants.{Long}
 use Rattle.cc_base.specs.declared.numbers.Operator.TheVariants.{Add, Subtract, Multiply, Divide, Remainder}
@@ -22,7 +21,7 @@ use Rattle.cc_code.specs.Operands.{takes}
 use Rattle.cc_code.specs.Rules.{IsVerified}
 use Rattle.cc_code.specs.Standing.{Fragment, NextIsAnsweredInFull, Stands, StandsAfter}
 use Rattle.cc_code.specs.Steps.{Ran, Asks, Yields, State, Stepped, Goes, Stops, after, and_on, goes_on, performed, popped, popped_if, renews, step, stepped, within_bound, worked, worked_on}
-use Rattle.cc_code.specs.Works.{Next as Going, Store, at_offset, element, element_offset, fetched, fetched_in, first, further, go_to, index_fault, on_with, on_with_cells, works}
+use Rattle.cc_code.specs.Works.{Next as Going, Store, at_offset, element_offset, fetched, fetched_in, first, further, go_to, index_fault, on_with, on_with_cells, works}
 use Rattle.cc_code.specs.declared.code.RawCode.{RawCode}
 use Rattle.cc_code.specs.declared.instr.Instr.{Instr}
 use Rattle.cc_code.specs.declared.instr.Instr.TheVariants as instr

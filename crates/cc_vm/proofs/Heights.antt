@@ -1,12 +1,12 @@
 -- The heights of code are room enough.
-use Rattle.std.proofs.Common.{◌≡◌, ℕ, ◌+◌, ◌-◌, ◌<◌, ◌≤◌, List, [], ◌∷◌, length, get_or, slice_get, Some, inl, inr, refl, subst, arith}
+use Rattle.std.proofs.Common.{◌≡◌, ℕ, ◌+◌, ◌-◌, ◌<◌, ◌≤◌, length, slice_get, Some, inl, inr, refl, arith}
 use Rattle.std.proofs.lemmas.Bool.{cases_lt}
 use Rattle.std.proofs.lemmas.Option.{slice_get_within}
 use Rattle.cc_code.proofs.Marked.{itself}
 use Rattle.cc_code.proofs.Waiting.{member-holds}
 use Rattle.cc_code.specs.Control.{successors}
 use Rattle.cc_code.specs.Operands.{gives, takes}
-use Rattle.cc_code.specs.Rules.{GivesHeights, HasHeight, IsAddress, IsFinal, IsVerified, KeepsHeights, height_at, rest_at}
+use Rattle.cc_code.specs.Rules.{HasHeight, IsAddress, IsFinal, IsVerified, KeepsHeights, height_at, rest_at}
 use Rattle.cc_code.specs.declared.code.RawCode.{RawCode}
 use Rattle.cc_code.specs.declared.instr.Instr.{Instr}
 use Rattle.cc_code.specs.declared.instr.Instr.TheVariants as instr

@@ -3,6 +3,8 @@ pub mod Between
 pub mod Copies
 pub mod Found
 pub mod Fragments
+pub mod Growing
 pub mod Heights
+pub mod Pausing
 pub mod Running
 pub mod Sites

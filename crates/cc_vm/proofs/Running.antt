@@ -1,5 +1,5 @@
 -- The machine's step is the code's.
-use Rattle.std.proofs.Common.{◌≡◌, ℕ, ℤ, pos, zero, suc, ◌+◌, ◌-◌, ◌*◌, ◌<◌, ◌≤◌, ◌⊎◌, inl, inr, Bool, true, false, List, [], ◌∷◌, ◌++◌, append-nil, add-zero, length, length-append, drop, take, replicate, get_or, slice_get, Option, Some, None, refl, sym, ◌∙◌, ap, subst, arith, add-one}
+use Rattle.std.proofs.Common.{◌≡◌, ℕ, ℤ, pos, zero, suc, ◌+◌, ◌-◌, ◌*◌, ◌<◌, ◌≤◌, inl, inr, Bool, true, false, List, [], ◌∷◌, ◌++◌, length, length-append, drop, take, replicate, get_or, slice_get, Option, Some, None, refl, sym, ◌∙◌, ap, subst, arith, add-one}
 use Rattle.std.specs.Prelude.{nat_le, nat_lt, slice_set, if◌then◌else◌}
 use Rattle.std.proofs.lemmas.Bool.Decides.{nat_tests}
 use Rattle.std.proofs.lemmas.Grind.{common_steps}
@@ -13,12 +13,11 @@ use Rattle.cc_base.specs.declared.request.Request.TheVariants as request
 use Rattle.cc_code.proofs.Proper.{follows-on, follows-stop}
 use Rattle.cc_code.proofs.Standing.{step-stands}
 use Rattle.cc_code.proofs.Total.{spends-lighter, step-spends}
-use Rattle.cc_code.specs.Control.{InKind}
 use Rattle.std.proofs.lemmas.Option.{get_or_from_slice_get, slice_get_cases}
 use Rattle.cc_base.specs.Outcome.{Left}
 use Rattle.cc_code.specs.Operands.{function_at, gives, no_part, takes}
 use Rattle.cc_code.specs.Rules.{IsVerified, KeepsHeights, height_at}
-use Rattle.cc_code.specs.Standing.{GoBack, Kind, NextIsAnsweredInFull, Spends, Stands, StandsAfter}
+use Rattle.cc_code.specs.Standing.{GoBack, Kind, NextIsAnsweredInFull, Spends, StandsAfter}
 use Rattle.cc_code.specs.Steps as steps
 use Rattle.cc_code.specs.Steps.{Asks, Goes, Ran, State, Stepped, Stops, and_on, called, called_if, called_with, cells_at_start, cells_below, goes_on, performed, popped, returned_to, step, stepped, with_grants, within_bound}
 use Rattle.cc_code.specs.Works.{with_cells}
@@ -27,7 +26,7 @@ use Rattle.cc_code.specs.declared.code.RawCode.{RawCode}
 use Rattle.cc_code.specs.declared.instr.Instr.{Instr}
 use Rattle.cc_code.specs.declared.instr.Instr.TheVariants as instr
 use Rattle.cc_code.specs.declared.rule.Rule.TheVariants as rule
-use Rattle.cc_vm.proofs.Acts.{Did, Fits, Keeps, acts-did, at-most, top-none}
+use Rattle.cc_vm.proofs.Acts.{Did, Fits, Keeps, acts-did, top-none}
 use Rattle.cc_vm.proofs.Between.{taken, below-put, between-put, between-split, length-between, length-with}
 use Rattle.cc_vm.proofs.Fragments.{popped-is}
 use Rattle.cc_vm.specs.Machine.{Acts, AreCallers, AreWithin, Calls, CallsIf, Enters, HasPlace, HasRoomFor, back_to, between, callers, frame_of, no_frame, state_of}

@@ -1,5 +1,5 @@
 -- A pure fragment, step by step.
-use Rattle.std.specs.Prelude.{◌≡◌, ℕ, suc, ◌+◌, ◌*◌, ◌<◌, ◌≤◌, ℤ, pos, negsuc, List, [], ◌∷◌, ◌++◌, length, slice_get, Option, Some, None, Result, Ok, Err}
+use Rattle.std.specs.Prelude.{◌≡◌, ℕ, suc, ◌+◌, ◌*◌, ◌<◌, ◌≤◌, ℤ, pos, negsuc, List, [], ◌∷◌, ◌++◌, slice_get, Option, Some, None, Result, Ok, Err}
 use Rattle.cc_base.specs.Limits.{most_steps}
 use Rattle.cc_base.specs.Numbers.{and_with, at_zero, compared, converted, indexed, logical_not, operated, opposite, truth}
 use Rattle.cc_base.specs.declared.names.FaultKind.{FaultKind}

@@ -1,3 +1,5 @@
+pub mod Endings
 pub mod Fragments
+pub mod Lists
 pub mod Machine
 pub mod Running

@@ -1,6 +1,6 @@
 -- How the machine keeps a state of code: in lists of cells, and numbers that say where its parts stand in them.
-use Rattle.std.specs.Prelude.{◌≡◌, ℕ, zero, suc, ◌+◌, ◌-◌, ◌*◌, ◌<◌, ◌≤◌, ℤ, pos, negsuc, Bool, true, false, ◌⊎◌, List, [], ◌∷◌, ◌++◌, length, take, drop, replicate, get_or, slice_get, slice_set, nat_le, nat_lt, Option, Some, None, Result, Ok, Err}
-use Rattle.cc_base.specs.Limits.{most_calls, most_cells, most_steps}
+use Rattle.std.specs.Prelude.{◌≡◌, ℕ, zero, suc, ◌+◌, ◌-◌, ◌*◌, ◌<◌, ◌≤◌, ℤ, pos, negsuc, Bool, true, false, ◌⊎◌, List, [], ◌∷◌, length, take, drop, replicate, get_or, slice_set, nat_le, nat_lt, Option, Some, None, Result, Ok, Err}
+use Rattle.cc_base.specs.Limits.{most_calls, most_cells}
 use Rattle.cc_base.specs.Numbers.{at_zero, compared, converted, indexed, logical_not, operated, opposite, truth, updated}
 use Rattle.cc_base.specs.declared.alternatives.Alt.{Alt}
 use Rattle.cc_base.specs.declared.names.FaultKind.{FaultKind}
@@ -13,10 +13,9 @@ use Rattle.cc_code.specs.Steps as steps
 use Rattle.cc_code.specs.Steps.{State}
 use Rattle.cc_code.specs.Works.{further, is_within, with_cells}
 use Rattle.cc_code.specs.declared.code.Part.{Part}
-use Rattle.cc_code.specs.declared.code.RawCode.{RawCode}
 use Rattle.cc_code.specs.declared.instr.Instr.{Instr}
 use Rattle.cc_code.specs.declared.instr.Instr.TheVariants as instr
-use Rattle.cc_vm.specs.Fragments.{cell_at, element_at}
+use Rattle.cc_vm.specs.Fragments.{element_at}
 use Rattle.cc_vm.specs.declared.registers.Frame.{Frame}
 use Rattle.cc_vm.specs.declared.registers.Registers.{Registers}
 use Rattle.cc_vm.specs.declared.registers.Stop.{Stop}

@@ -1,5 +1,5 @@
 -- When the machine is ready for its next instruction, and what comes of it.
-use Rattle.std.specs.Prelude.{◌≡◌, ℕ, ◌+◌, ◌-◌, ◌*◌, ◌<◌, ◌≤◌, ℤ, pos, List, [], ◌∷◌, ◌++◌, length, take, slice_get, Option, Some, None}
+use Rattle.std.specs.Prelude.{◌≡◌, ℕ, ◌+◌, ◌-◌, ◌<◌, ◌≤◌, ℤ, List, [], ◌++◌, length, take, slice_get, Option, Some, None}
 use Rattle.cc_base.specs.Limits.{most_cells, most_steps}
 use Rattle.cc_base.specs.declared.alternatives.Alt.{Alt}
 use Rattle.cc_base.specs.declared.request.Grant.{Grant}
@@ -16,7 +16,7 @@ use Rattle.cc_vm.specs.Machine.{AreCallers, state_of}
 use Rattle.cc_vm.specs.declared.registers.Frame.{Frame}
 use Rattle.cc_vm.specs.declared.registers.Registers.{Registers}
 use Rattle.cc_vm.specs.declared.registers.Stop.{Stop}
-use Rattle.cc_vm.specs.declared.registers.Stop.TheVariants.{Fault, Other, Room}
+use Rattle.cc_vm.specs.declared.registers.Stop.TheVariants.{Fault}
 
 -- so many cells are enough for the operands of a part before and after each instruction
 abbrev pub IsRoom : RawCode → ℕ → Type 0

@@ -1,7 +1,7 @@
 use mir.Syntax.{w64}
 use mir.Val.{Fits}
 use Rattle.std.proofs.lemmas.Int.{to_z-of_z}
-use Rattle.std.proofs.Common.{rules, ℤ, ap, ◌∙◌, ◌≡◌, ◌+◌, ◌-◌, ◌*◌, ◌≤◌, sym, arith}
+use Rattle.std.proofs.Common.{rules, ℤ, ap, ◌∙◌, ◌-◌, ◌*◌, sym, arith}
 use Rattle.cc_base.specs.Numbers.{indexed}
 use Rattle.cc_vm.proofs.Copies.{element-within, index-below, picked-so}
 use Rattle.cc_vm.proofs.arms.pick.Goals as goal

@@ -1,11 +1,9 @@
-use Rattle.std.proofs.Common.{◌≡◌, ℤ, List, ◌++◌, refl, sym, ◌∙◌, subst, arith}
+use Rattle.std.proofs.Common.{◌++◌, refl, sym, subst, arith}
 use Rattle.cc_code.proofs.Standing.{fragment-stands}
 use Rattle.cc_code.specs.Meaning.{nothing_left}
 use Rattle.cc_vm.proofs.Fragments.{Reached, reached-end, reached-next}
 use Rattle.cc_vm.proofs.Found.{address-low}
 use Rattle.cc_vm.proofs.fragment.value.Goals as goal
-use Rattle.cc_vm.specs.Fragments.{StepsTo}
-use Rattle.cc_vm.specs.declared.fragment.Next.{Next}
 
 pub instructions-init : goal.instructions-init
 instructions-init c =

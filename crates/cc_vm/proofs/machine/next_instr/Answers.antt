@@ -1,4 +1,4 @@
-use Rattle.std.proofs.Common.{◌≡◌, List, Some, slice_get, ap, subst, sym, length, ◌<◌, ◌∙◌}
+use Rattle.std.proofs.Common.{List, slice_get, ap, subst, sym, length, ◌<◌, ◌∙◌}
 use Rattle.cc_code.specs.declared.instr.Instr.{Instr}
 use Rattle.cc_vm.proofs.Running.{found, found-place, found-within}
 use Rattle.cc_vm.proofs.machine.next_instr.Goals as goal
