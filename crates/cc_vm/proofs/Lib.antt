@@ -1,4 +1,5 @@
 pub mod Acts
+pub mod Asking
 pub mod Between
 pub mod Copies
 pub mod Found

@@ -1,5 +1,5 @@
 -- How a process begins, what it asks at a stop, and how it goes on after a pause.
-use Rattle.std.proofs.Common.{◌≡◌, ℕ, ℤ, pos, zero, suc, ◌+◌, ◌-◌, ◌<◌, ◌≤◌, Bool, true, false, List, [], ◌∷◌, ◌++◌, append-nil, append_assoc, length, length-append, take, replicate, slice_get, Option, Some, Result, Ok, Err, IfOk, refl, sym, ◌∙◌, ap, subst, arith}
+use Rattle.std.proofs.Common.{◌≡◌, ℕ, ℤ, pos, zero, suc, ◌+◌, ◌-◌, ◌<◌, ◌≤◌, Bool, true, false, List, [], ◌∷◌, ◌++◌, append-nil, append_assoc, length, length-append, take, replicate, slice_get, Option, Some, None, Result, Ok, Err, IfOk, refl, sym, ◌∙◌, ap, subst, arith}
 use Rattle.std.specs.Prelude.{nat_lt, if◌then◌else◌}
 use Rattle.std.proofs.lemmas.Bool.Decides.{nat_tests}
 use Rattle.std.proofs.lemmas.List.{length-replicate, replicate-append-replicate, take_all}
@@ -9,6 +9,7 @@ use Rattle.cc_base.specs.declared.alternatives.Alt.{Alt}
 use Rattle.cc_base.specs.declared.names.FaultKind.TheVariants.{Cells, Index}
 use Rattle.cc_base.specs.declared.request.Grant.{Grant}
 use Rattle.cc_base.specs.declared.request.Grant.TheVariants.{Go}
+use Rattle.cc_base.specs.declared.request.Request.{Request}
 use Rattle.cc_base.specs.declared.request.Request.TheVariants as request
 use Rattle.cc_code.proofs.Proper.{follows-grant, follows-stop}
 use Rattle.cc_code.proofs.Standing.{kind-stands, step-stands}
@@ -23,12 +24,14 @@ use Rattle.cc_code.specs.declared.instr.Instr.{Instr}
 use Rattle.cc_code.specs.declared.instr.Instr.TheVariants as instr
 use Rattle.cc_code.specs.declared.rule.Rule.TheVariants as rule
 use Rattle.cc_vm.proofs.Fragments.{popped-is}
-use Rattle.cc_vm.specs.Endings.{AfterSlice, CameThrough, EndsAlone, EndsFrom, EndsWithin, IsPaused, ending_before}
+use Rattle.cc_vm.specs.Asking.{IsPause}
+use Rattle.cc_vm.specs.Endings.{AfterSlice, CameThrough, EndsAlone, EndsFrom, EndsWithin, IsPaused, WaitsAt, ending_of}
 use Rattle.cc_vm.specs.Lists.{GoOn, IsReady, StartsWith, first_registers, kept_state, ticked_again}
 use Rattle.cc_vm.specs.Machine.{between, callers, state_of}
 use Rattle.cc_vm.specs.Running.{Follows, Ready}
 use Rattle.cc_vm.specs.declared.ending.Ending.{Ending}
-use Rattle.cc_vm.specs.declared.ending.Ending.TheVariants.{Fault, Paused}
+use Rattle.cc_vm.specs.declared.ending.Ending.TheVariants.{Paused}
+use Rattle.cc_vm.specs.declared.ending.Ending.TheVariants.{Asks as Asked}
 use Rattle.cc_vm.specs.declared.lists.Lists.{Lists}
 use Rattle.cc_vm.specs.declared.registers.Frame.{Frame}
 use Rattle.cc_vm.specs.declared.registers.Registers.{Registers}
@@ -95,11 +98,11 @@ module _ (k : RawCode) (p : Part) (args : List ℤ) where
 
 -- a process of a kind, as the machine runs it
 module _ (k : RawCode) (verified : IsVerified k) (kind : ℕ) (p : Part) (there : slice_get k.kinds kind ≡ Some p) (args : List ℤ) (long : length args ≡ p.args) (pauses : ℕ) where
-  pub ends-many : most_cells < p.cells → EndsAlone k kind args pauses (Fault Cells)
-  ends-many h = (0, omega arith, ap (λ (o : Option Part). process k o args (Go ∷ [])) there ∙ too-many k p args h (Go ∷ []))
+  pub ends-many : most_cells < p.cells → EndsAlone k kind args pauses (Asked (request.Fault Cells))
+  ends-many h = (0, omega arith, (ap (λ (o : Option Part). process k o args (Go ∷ [])) there ∙ too-many k p args h (Go ∷ []), tt))
 
-  pub ends-lacking : p.cells ≤ most_cells → p.cells < p.args → EndsAlone k kind args pauses (Fault Index)
-  ends-lacking m h = (0, omega arith, ap (λ (o : Option Part). process k o args (Go ∷ [])) there ∙ lacks-cells k p args m h (Go ∷ []))
+  pub ends-lacking : p.cells ≤ most_cells → p.cells < p.args → EndsAlone k kind args pauses (Asked (request.Fault Index))
+  ends-lacking m h = (0, omega arith, (ap (λ (o : Option Part). process k o args (Go ∷ [])) there ∙ lacks-cells k p args m h (Go ∷ []), tt))
 
   module _ (most : p.cells ≤ most_cells) (among : p.args ≤ p.cells) (room : ℕ) (l : Lists) (starts : StartsWith p args room l) where
     pub started-ready : IsReady k room l
@@ -118,13 +121,10 @@ module _ (k : RawCode) (verified : IsVerified k) (kind : ℕ) (p : Part) (there 
     pub ends-started : (e : Ending) → EndsWithin k pauses l e → EndsAlone k kind args pauses e
     ends-started e h = (h.0, h.1, h.2 (process k (slice_get k.kinds kind) args) (Go ∷ []) [] started-follows)
 
--- what a process asks that stands before this instruction
+-- what a process asks that stands before a `Tick` without a tick
 module _ (k : RawCode) (l : Lists) (offers : List (ℕ × Alt)) where
   abbrev kept : State
   kept = kept_state l offers
-
-  end-stops : slice_get k.instrs l.registers.at ≡ Some instr.End → step k (with_grants kept []) ≡ Stops (Asks request.Done)
-  end-stops here = ap (λ (o : Option Instr). stepped k o (with_grants kept [])) here
 
   tick-stops : slice_get k.instrs l.registers.at ≡ Some instr.Tick → l.registers.ticks ≡ 0 → step k (with_grants kept []) ≡ Stops (Asks request.Pause)
   tick-stops here none =
@@ -134,26 +134,34 @@ module _ (k : RawCode) (l : Lists) (offers : List (ℕ × Alt)) where
       ∙ popped-is kept.stack [] 0 (worked_on k instr.Tick (with_grants kept [])) refl
       ∙ ap (λ (t : ℕ). after true (with_grants kept []) kept.stack (and_then (spent t kept.store (record { grants = []; ticks = l.registers.ticks })) (λ _. go_to (l.registers.at + 1) []))) none)
 
-module _ (k : RawCode) (l : Lists) where
-  ends-by : (i : Instr) (t : ℕ) → slice_get k.instrs l.registers.at ≡ Some i → l.registers.ticks ≡ t → EndsFrom k l (ending_before i t)
-  ends-by instr.End t here e process fed offers follows = follows-stop k process fed (kept_state l offers) follows (Asks request.Done) (end-stops k l offers here)
-  ends-by instr.Tick zero here e process fed offers follows = follows-stop k process fed (kept_state l offers) follows (Asks request.Pause) (tick-stops k l offers here e)
-  ends-by instr.Tick (suc t) here e process fed offers follows = (kept_state l offers, follows, here)
-  ends-by i t here e process fed offers follows = (kept_state l offers, follows, here)
+module _ (k : RawCode) (l : Lists) (i : Instr) (here : slice_get k.instrs l.registers.at ≡ Some i) where
+  pause-is : (j : Instr) (t : ℕ) → IsPause j t → (j ≡ instr.Tick) × (t ≡ 0)
+  pause-is instr.Tick zero h = (refl, refl)
+  pause-is instr.Tick (suc t) h = absurd h
+  pause-is j t h = absurd h
 
--- after a run to this instruction
-module _ (k : RawCode) (room : ℕ) (a b : Lists) (ready : IsReady k room b) (came : GoOn k a b) (i : Instr) (here : slice_get k.instrs b.registers.at ≡ Some i) where
-  pub slice-ends : EndsFrom k a (ending_before i b.registers.ticks)
-  slice-ends process fed offers follows = ends-by k b i b.registers.ticks here refl process fed offers (came process fed offers follows)
+  tick-here : IsPause i l.registers.ticks → slice_get k.instrs l.registers.at ≡ Some instr.Tick
+  tick-here h = here ∙ ap (λ (j : Instr). Some j) (pause-is i l.registers.ticks h).0
 
-  pub slice-after : AfterSlice k room a b (ending_before i b.registers.ticks)
-  slice-after = by i b.registers.ticks here refl
-    where
-      by : (j : Instr) (t : ℕ) → slice_get k.instrs b.registers.at ≡ Some j → b.registers.ticks ≡ t → AfterSlice k room a b (ending_before j t)
-      by instr.End t e f = tt
-      by instr.Tick zero e f = record { ready = ready; tick = e; none = f; came = came }
-      by instr.Tick (suc t) e f = tt
-      by j t e f = tt
+  pub pause-ends : IsPause i l.registers.ticks → EndsFrom k l Paused
+  pause-ends h process fed offers follows =
+      follows-stop k process fed (kept_state l offers) follows (Asks request.Pause) (tick-stops k l offers (tick-here h) (pause-is i l.registers.ticks h).1)
+
+  pub pause-waits : IsPause i l.registers.ticks → WaitsAt k l Paused
+  pause-waits h = (tick-here h, (pause-is i l.registers.ticks h).1)
+
+pub no-waits : (k : RawCode) (l : Lists) (o : Option Request) (i : Instr) → WaitsAt k l (ending_of o i)
+no-waits k l None i = tt
+no-waits k l (Some q) i = tt
+
+-- after a run to an instruction
+module _ (k : RawCode) (room : ℕ) (a b : Lists) (ready : IsReady k room b) (came : GoOn k a b) where
+  pub slice-ends : (e : Ending) → EndsFrom k b e → EndsFrom k a e
+  slice-ends e h process fed offers follows = h process fed offers (came process fed offers follows)
+
+  pub slice-after : (e : Ending) → WaitsAt k b e → AfterSlice k room a b e
+  slice-after Paused h = record { ready = ready; tick = h.0; none = h.1; came = came }
+  slice-after e h = tt
 
 -- after the grant that ends a pause
 module _ (k : RawCode) (verified : IsVerified k) (room : ℕ) (S C : List ℤ) (F : List Frame) (r : Registers) (ready : Ready k room S C F r) (here : slice_get k.instrs r.at ≡ Some instr.Tick) (none : r.ticks ≡ 0) where

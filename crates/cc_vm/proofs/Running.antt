@@ -112,7 +112,7 @@ module _ (k : RawCode) (verified : IsVerified k) (room : ℕ) (enough : IsRoom k
     heights : KeepsHeights k r.at i
     heights = (verified r.at rule.Height).each i here
 
-    fits : Fits k i S C r
+    pub fits : Fits k i S C r
     fits =
         let t : takes k i ≤ height_at k r.at = heights.takes in
         let g : height_at k r.at - takes k i + gives k i ≤ room = (enough r.at i here).1 in

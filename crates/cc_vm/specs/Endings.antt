@@ -1,8 +1,9 @@
 -- How far a process comes that is granted nothing but to go on.
-use Rattle.std.specs.Prelude.{◌≡◌, ℕ, zero, ◌≤◌, ℤ, List, ◌∷◌, ◌++◌, replicate, slice_get, Some}
+use Rattle.std.specs.Prelude.{◌≡◌, ℕ, ◌≤◌, ℤ, List, ◌∷◌, ◌++◌, replicate, slice_get, Option, Some, None}
 use Rattle.cc_base.specs.declared.alternatives.Alt.{Alt}
 use Rattle.cc_base.specs.declared.request.Grant.{Grant}
 use Rattle.cc_base.specs.declared.request.Grant.TheVariants.{Go}
+use Rattle.cc_base.specs.declared.request.Request.{Request}
 use Rattle.cc_base.specs.declared.request.Request.TheVariants as request
 use Rattle.cc_code.specs.Meaning.{process}
 use Rattle.cc_code.specs.Steps.{Asks, Ran, State}
@@ -12,14 +13,18 @@ use Rattle.cc_code.specs.declared.instr.Instr.TheVariants as instr
 use Rattle.cc_vm.specs.Lists.{GoOn, IsReady, kept_state}
 use Rattle.cc_vm.specs.Running.{Follows}
 use Rattle.cc_vm.specs.declared.ending.Ending.{Ending}
-use Rattle.cc_vm.specs.declared.ending.Ending.TheVariants.{At, Done, Fault, Paused}
+use Rattle.cc_vm.specs.declared.ending.Ending.TheVariants.{At, Paused}
+use Rattle.cc_vm.specs.declared.ending.Ending.TheVariants.{Asks as Asked}
 use Rattle.cc_vm.specs.declared.lists.Lists.{Lists}
+
+abbrev pub IsNoPause : Request → Type 0
+IsNoPause request.Pause = ⊥
+IsNoPause q = Unit {0}
 
 -- after these grants the process asks this, or comes to this instruction
 abbrev pub EndsSo : RawCode → (List Grant → Ran) → List Grant → Ending → Type 0
-EndsSo k process grants Done = process grants ≡ Asks request.Done
-EndsSo k process grants (Fault kind) = process grants ≡ Asks (request.Fault kind)
 EndsSo k process grants Paused = process grants ≡ Asks request.Pause
+EndsSo k process grants (Asked q) = (process grants ≡ Asks q) × IsNoPause q
 EndsSo k process grants (At i) = (s : State) × Follows k process grants s × (slice_get k.instrs s.address ≡ Some i)
 
 -- so many pauses may come; it asks Pause only after all of them
@@ -55,8 +60,12 @@ abbrev pub AfterSlice : RawCode → ℕ → Lists → Lists → Ending → Type 
 AfterSlice k room a b Paused = IsPaused k room a b
 AfterSlice k room a b e = Unit {0}
 
--- how far it came that stands before this instruction, with so many ticks
-abbrev pub ending_before : Instr → ℕ → Ending
-ending_before instr.End ticks = Done
-ending_before instr.Tick zero = Paused
-ending_before i ticks = At i
+-- where it is paused, a `Tick` is next, and no tick is left
+abbrev pub WaitsAt : RawCode → Lists → Ending → Type 0
+WaitsAt k l Paused = (slice_get k.instrs l.registers.at ≡ Some instr.Tick) × (l.registers.ticks ≡ 0)
+WaitsAt k l e = Unit {0}
+
+-- how far it came that stands before an instruction, given what that asks
+abbrev pub ending_of : Option Request → Instr → Ending
+ending_of (Some q) i = Asked q
+ending_of None i = At i

@@ -2,13 +2,15 @@ ghost use Rattle.std.specs.Prelude.{◌≡◌, ◌<◌, [], Some, length, slice_
 ghost use Rattle.cc_code.specs.Rules.{IsVerified};
 ghost use Rattle.cc_code.specs.declared.code.Part.{Part};
 ghost use Rattle.cc_vm.specs.Endings.{EndsAlone};
+ghost use Rattle.cc_vm.specs.declared.ending.Ending.TheVariants.{Asks};
+ghost use Rattle.cc_base.specs.declared.request.Request.TheVariants as request;
 
 use crate::ending::Ending;
 use crate::pauses::run_slices;
 use crate::room::room_for;
 use crate::starts::start;
 use cc_base::limits::MOST_CELLS;
-use cc_base::{Cells, FaultKind, Memory};
+use cc_base::{Cells, FaultKind, Memory, Request};
 use cc_code::{Code, Part, RawCode};
 use std::alloc::Global;
 
@@ -18,6 +20,13 @@ fn kind_at(raw: &RawCode, kind: u32) -> Part
     ensures { slice_get raw.now.kinds kind ≡ Some result }
 {
     raw.kinds.as_slice()[kind as usize]
+}
+
+/// A fault at once.
+fn faulty(kind: FaultKind) -> Ending
+    ensures { result ≡ Asks (request.Fault kind) }
+{
+    Ending::Asks(Request::Fault { kind })
 }
 
 /// How far a process of a kind comes with these arguments.
@@ -35,18 +44,19 @@ fn run_kind(
 {
     let part = kind_at(raw, kind);
     if part.cells > u64::from(MOST_CELLS) {
-        return Ok(Ending::Fault(FaultKind::Cells));
+        return Ok(faulty(FaultKind::Cells));
     }
     if u64::from(part.args) > part.cells {
-        return Ok(Ending::Fault(FaultKind::Index));
+        return Ok(faulty(FaultKind::Index));
     }
     let room = room_for(raw);
     let mut lists = start(alloc, part, args, room)?;
-    Ok(run_slices(raw, room, &mut lists, pauses)?)
+    let ending = run_slices(alloc, raw, room, &mut lists, pauses)?;
+    Ok(ending)
 }
 
-/// How far `main` comes that is granted nothing but to go on, at its start and after each of so many pauses at most. It is Paused
-/// only after all of them, and stops before an instruction that asks for anything else.
+/// How far `main` comes that is granted nothing but to go on, at its start and after each of so many pauses at most: up to what it asks
+/// then, which is Pause only after all of them.
 pub fn run_main(alloc: Global, code: &Code, pauses: u64) -> Result<Ending, Memory>
     ensures { IfOk result (EndsAlone code.now 0 [] pauses) }
 {

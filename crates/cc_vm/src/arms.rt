@@ -83,7 +83,7 @@ fn locate(cells: &[i64], r: &Registers, offset: i64, count: usize) -> Option<usi
 
 /// The cell at a place of the operands.
 #[inline(always)]
-fn cell_at(stack: &[i64], place: usize) -> i64
+pub(crate) fn cell_at(stack: &[i64], place: usize) -> i64
     requires { place < length stack.now }
     ensures { result ≡ cell_of stack.now place }
 {

@@ -1,11 +1,12 @@
 //! The stack machine, which does what code means.
 //!
 //! [`fit`] says which rank a call has at an accept site. It evaluates the fragments of the site's clauses on a fixed stack of 64
-//! cells, and takes no memory. [`run_main`] runs a `main` that asks for nothing, as far as it goes.
+//! cells, and takes no memory. [`run_main`] runs a `main` up to what it asks first, pauses apart.
 #![tactic(auto)]
 
 mod alone;
 mod arms;
+mod asks;
 mod calls;
 mod clauses;
 mod ending;

@@ -1,20 +1,22 @@
 //! A process that runs on through its pauses.
 
-ghost use Rattle.std.specs.Prelude.{◌≡◌, ◌<◌, ◌≤◌, Some, length, slice_get, IfOk};
+ghost use Rattle.std.specs.Prelude.{◌≡◌, ◌↔◌, IsTrue, ◌<◌, ◌≤◌, Some, length, slice_get, IfOk};
 ghost use Rattle.cc_code.specs.Rules.{IsVerified};
-ghost use Rattle.cc_vm.specs.Endings.{AfterSlice, EndsFrom, EndsWithin, ending_before};
+ghost use Rattle.cc_vm.specs.Asking.{IsPause};
+ghost use Rattle.cc_vm.specs.Endings.{AfterSlice, EndsFrom, EndsWithin, WaitsAt, ending_of};
 ghost use Rattle.cc_vm.specs.Lists.{ComesTo, IsReady, RunsOn, size, ticked_again};
 ghost use Rattle.cc_vm.specs.Running.{IsRoom};
 
+use crate::asks::request_of;
 use crate::ending::Ending;
 use crate::growth::grow;
 use crate::lists::Lists;
 use crate::machine::run;
 use crate::registers::{Registers, Stop};
-use cc_base::FaultKind;
 use cc_base::limits::TICKS_GRANTED;
+use cc_base::{FaultKind, Memory, Request};
 use cc_code::{Instr, RawCode};
-use std::alloc::AllocError;
+use std::alloc::{AllocError, Global};
 
 /// The loop, on the lists as they are.
 fn run_within(raw: &RawCode, room: usize, lists: &mut Lists) -> Stop
@@ -59,19 +61,57 @@ fn instr_at(raw: &RawCode, at: usize) -> Instr
     raw.instrs.as_slice()[at]
 }
 
-/// How far a process came that stands before this instruction, with so many ticks.
-fn ending_before(instr: Instr, ticks: u32) -> Ending
-    ensures { result ≡ ending_before instr ticks }
+/// Whether the instruction asks for a pause.
+fn is_pause(instr: Instr, ticks: u32) -> bool
+    ensures { IsTrue result ↔ IsPause instr ticks }
 {
     match instr {
-        Instr::End => Ending::Done,
-        Instr::Tick if ticks == 0 => Ending::Paused,
-        _ => Ending::At(instr),
+        Instr::Tick => ticks == 0,
+        _ => false,
     }
 }
 
-/// A slice: up to a fault, to a pause, to the end, or to an instruction that asks for something else or opens an alternative.
-fn slice(raw: &RawCode, room: usize, lists: &mut Lists) -> Result<Ending, AllocError>
+/// How far a process came that stands before an instruction, given what that asks.
+fn ending_of(request: Option<Request>, instr: Instr) -> Ending
+    ensures { result ≡ ending_of request instr }
+{
+    match request {
+        Some(request) => Ending::Asks(request),
+        None => Ending::At(instr),
+    }
+}
+
+/// How far a process came that stands before this instruction, which the loop leaves.
+fn ending_at(
+    alloc: Global,
+    raw: &RawCode,
+    room: usize,
+    lists: &Lists,
+    instr: Instr,
+) -> Result<Ending, Memory>
+    requires verified { IsVerified raw.now }
+    requires room { IsRoom raw.now room }
+    requires ready { IsReady raw.now room lists.now }
+    requires there { slice_get raw.now.instrs lists.now.registers.at ≡ Some instr }
+    ensures ends { IfOk result (EndsFrom raw.now lists.now) }
+    ensures after { IfOk result (WaitsAt raw.now lists.now) }
+{
+    let _ = room;
+    if is_pause(instr, lists.registers.ticks) {
+        return Ok(Ending::Paused);
+    }
+    let request = request_of(
+        alloc,
+        raw,
+        lists.stack.as_slice(),
+        lists.registers.top,
+        instr,
+    )?;
+    Ok(ending_of(request, instr))
+}
+
+/// A slice: up to a pause, to what is asked, or to an instruction that opens an alternative, selects or prints a format.
+fn slice(alloc: Global, raw: &RawCode, room: usize, lists: &mut Lists) -> Result<Ending, Memory>
     requires verified { IsVerified raw.now }
     requires room { IsRoom raw.now room }
     requires ready { IsReady raw.now room lists.old }
@@ -79,8 +119,12 @@ fn slice(raw: &RawCode, room: usize, lists: &mut Lists) -> Result<Ending, AllocE
     ensures after { IfOk result (AfterSlice raw.now room lists.old lists.new) }
 {
     match run_on(raw, room, lists)? {
-        Some(kind) => Ok(Ending::Fault(kind)),
-        None => Ok(ending_before(instr_at(raw, lists.registers.at), lists.registers.ticks)),
+        Some(kind) => Ok(Ending::Asks(Request::Fault { kind })),
+        None => {
+            let instr = instr_at(raw, lists.registers.at);
+            let ending = ending_at(alloc, raw, room, lists, instr)?;
+            Ok(ending)
+        }
     }
 }
 
@@ -96,11 +140,12 @@ fn resume_tick(r: &mut Registers)
 
 /// Runs on through so many pauses at most.
 pub(crate) fn run_slices(
+    alloc: Global,
     raw: &RawCode,
     room: usize,
     lists: &mut Lists,
     pauses: u64,
-) -> Result<Ending, AllocError>
+) -> Result<Ending, Memory>
     requires verified { IsVerified raw.now }
     requires room { IsRoom raw.now room }
     requires ready { IsReady raw.now room lists.old }
@@ -108,10 +153,10 @@ pub(crate) fn run_slices(
 {
     for pause in 0..pauses {
         let _ = pause;
-        match slice(raw, room, lists)? {
+        match slice(alloc, raw, room, lists)? {
             Ending::Paused => resume_tick(&mut lists.registers),
             ending => return Ok(ending),
         }
     }
-    slice(raw, room, lists)
+    slice(alloc, raw, room, lists)
 }

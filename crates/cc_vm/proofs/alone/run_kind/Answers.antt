@@ -18,4 +18,4 @@ returns c =
     let most : p.cells ≤ most_cells = omega (arith, c.if-part-from.false, c.from.ensures) in
     let among : p.args ≤ p.cells = omega (arith, c.if-from-part.false, c.from-2.ensures) in
     ends-started c.args.raw.now c.requires.verified c.args.kind p c.kind_at-part.ensures c.args.args.now (c.requires.args p c.kind_at-part.ensures) c.args.pauses
-    most among c.room_for-room.result c.in_ok-lists.lists c.in_ok-lists.ensures c.in_ok-run_slices.field-0 c.in_ok-run_slices.ensures
+    most among c.room_for-room.result c.in_ok-lists.lists c.in_ok-lists.ensures c.in_ok-ending.ending c.in_ok-ending.ensures
