@@ -1,0 +1,11 @@
+pub mod Acts
+pub mod Asking
+pub mod Between
+pub mod Copies
+pub mod Found
+pub mod Fragments
+pub mod Growing
+pub mod Heights
+pub mod Pausing
+pub mod Running
+pub mod Sites

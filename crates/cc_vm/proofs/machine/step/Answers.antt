@@ -1,0 +1,17 @@
+use Rattle.cc_vm.proofs.Running.{acts-move, call-move, ret-move}
+use Rattle.cc_vm.proofs.machine.step.Goals as goal
+
+pub returns-in-Call : goal.returns-in-Call
+returns-in-Call c =
+    call-move c.args.raw.now c.requires.verified c.args.room c.requires.room c.args.stack.now c.args.cells.now c.args.frames.now c.args.r.now c.requires.ready c.in-Call.function c.in-Call.ensures.there
+    c.function_at-part.result c.function_at-part.ensures c.call.new.cells c.call.new.frames c.call.new.r c.call.result c.call.ensures
+
+pub returns-in-Ret : goal.returns-in-Ret
+returns-in-Ret c =
+    ret-move c.args.raw.now c.requires.verified c.args.room c.requires.room c.args.stack.now c.args.cells.now c.args.frames.now c.args.r.now c.requires.ready c.in-Ret.field-0 c.in-Ret.ensures.there
+    c.in-Ret.ensures.finds.0 c.go_back.new.r c.go_back.ensures
+
+pub returns-in_default : goal.returns-in_default
+returns-in_default c =
+    acts-move c.args.raw.now c.requires.verified c.args.room c.requires.room c.args.stack.now c.args.cells.now c.args.frames.now c.args.r.now c.requires.ready c.next_instr-instr.result c.next_instr-instr.ensures.there
+    c.perform.new.stack c.perform.new.cells c.perform.new.r c.perform.result c.perform.ensures

@@ -1,0 +1,9 @@
+use Rattle.std.proofs.Common.{◌*◌, ◌-◌, ◌^◌}
+use Rattle.cc_vm.specs.Lists.{GoOn, IsReady, size}
+use Rattle.cc_vm.proofs.pauses.run_on.Given as goal
+
+abbrev pub invariant-growths : goal.invariant-growths
+invariant-growths l = IsReady l.raw l.room l.lists × GoOn l.raw l.initial.lists l.lists
+
+abbrev pub decreases-growths : goal.decreases-growths
+decreases-growths l = 3 * 2 ^ 64 - size l.lists

@@ -1,0 +1,6 @@
+pub mod Asking
+pub mod Endings
+pub mod Fragments
+pub mod Lists
+pub mod Machine
+pub mod Running
