@@ -1,8 +1,8 @@
 -- The collective end: what is kept follows the machine, and nothing comes after it.
-use Rattle.std.proofs.Common.{◌≡◌, inl, inr, ℕ, suc, ◌+◌, ◌<◌, ℤ, Bool, true, false, ◌&&◌, ◌||◌, cond, not, List, [], ◌∷◌, ◌++◌, length, map, refl, sym, ap, ◌∙◌, arith, append_assoc, set}
+use Rattle.std.proofs.Common.{◌≡◌, inl, inr, ℕ, suc, ◌+◌, ◌<◌, ℤ, Bool, true, false, ◌&&◌, ◌||◌, List, [], ◌∷◌, ◌++◌, length, map, refl, sym, ap, ◌∙◌, arith, append_assoc, set}
 use Rattle.std.specs.Prelude.{if◌then◌else◌}
-use Rattle.std.specs.List.{enumerate_from, filter, list_all, list_any}
-use Rattle.std.proofs.lemmas.Bool.{cases_lt, eqb-true}
+use Rattle.std.specs.List.{enumerate_from, list_all, list_any}
+use Rattle.std.proofs.lemmas.Bool.{cases_lt}
 use Rattle.std.proofs.lemmas.List.{get_or_past}
 use Rattle.std.proofs.lemmas.List.Elements.{All-push}
 use Rattle.cc_base.specs.Meaning.{Meaning}
@@ -13,9 +13,8 @@ use Rattle.cc_kernel.specs.Choice.{after_end, due_in, seat_may_end, seat_waits, 
 use Rattle.cc_kernel.specs.Counted.{ended_seat, may_terminate}
 use Rattle.cc_kernel.specs.Settles.{GoesOn, IsCalm, Settles}
 use Rattle.cc_kernel.specs.Store.{Contents, IsState, SeatFits, Seated, ended_contents}
-use Rattle.cc_kernel.specs.Seats.{is_out, is_served_by, seat_at, served_call, vacant, with_left}
+use Rattle.cc_kernel.specs.Seats.{is_out, seat_at, served_call, vacant, with_left}
 use Rattle.cc_kernel.specs.declared.seat.Seat.{Seat}
-use Rattle.cc_kernel.specs.declared.served.ServedCall.{ServedCall}
 use Rattle.cc_kernel.proofs.Places.{enumerated-length}
 use Rattle.cc_kernel.proofs.Settling.{any-time}
 use Rattle.cc_kernel.proofs.Walking.{walked, walked-at, walked-keep, walked-set}
@@ -162,28 +161,6 @@ module _ {P : Type 0} (m : Meaning) (located : P → ℕ → List ℤ → List G
             ∙ sym (ap (λ (q : Process). if waits_at_terminate m s i then [] else q.serving) (get_or_past s.processes i nobody past) ∙ nil-either (waits_at_terminate m s i) [])
       ]
 
-  kept-one : (call : ServedCall) (b c d : Bool) (xs ys : List ServedCall) → (c ≡ true → b ≡ d) → xs ≡ (if d then [] else ys) → cond (not b && c) (call ∷ xs) xs ≡ (if d then [] else cond c (call ∷ ys) ys)
-  kept-one call true true true xs ys e h = h
-  kept-one call true true false xs ys e h = absurd (let f : true ≡ false = e refl in cc)
-  kept-one call false true true xs ys e h = absurd (let f : false ≡ true = e refl in cc)
-  kept-one call false true false xs ys e h = ap (λ zs. call ∷ zs) h
-  kept-one call true false d xs ys e h = h
-  kept-one call false false d xs ys e h = h
-
-  filter-twice : (i : ℕ) (call : ServedCall) (b c : Bool) (xs : List ServedCall) → is_served_by i call ≡ c → filter (is_served_by i) (cond (not b) (call ∷ xs) xs) ≡ cond (not b && c) (call ∷ filter (is_served_by i) xs) (filter (is_served_by i) xs)
-  filter-twice i call true c xs e = refl
-  filter-twice i call false c xs e = ap (λ d. cond d (call ∷ filter (is_served_by i) xs) (filter (is_served_by i) xs)) e
-
-  kept-served : (w : ℕ → Bool) (i : ℕ) (calls : List ServedCall) → filter (is_served_by i) (filter (λ call. not (w call.target.0)) calls) ≡ (if w i then [] else filter (is_served_by i) calls)
-  kept-served w i [] = sym (nil-either (w i) [])
-  kept-served w i (call ∷ calls) =
-      filter-twice i call (w call.target.0) (is_served_by i call) (filter (λ other. not (w other.target.0)) calls) refl
-      ∙ kept-one call (w call.target.0) (is_served_by i call) (w i)
-      (filter (is_served_by i) (filter (λ other. not (w other.target.0)) calls))
-      (filter (is_served_by i) calls)
-      (λ e. ap w (eqb-true call.target.0 i e))
-      (kept-served w i calls)
-
   length-map' : (f : ℕ × Seat P → Seat P) (xs : List (ℕ × Seat P)) → length (map f xs) ≡ length xs
   length-map' f [] = refl
   length-map' f (x ∷ xs) = ap suc (length-map' f xs)
@@ -196,8 +173,7 @@ module _ {P : Type 0} (m : Meaning) (located : P → ℕ → List ℤ → List G
         few = rw (length-map' (after_end m x.seats x.pending) (enumerate_from 0 x.seats), enumerated-length vacant 0 x.seats) k.few;
         pending = refl;
         served = λ i.
-            kept-served (seat_waits m x.seats x.pending) i x.served
-            ∙ ap (λ b. if b then [] else filter (is_served_by i) x.served) (waits-same s x i k)
+            ap (λ b. if b then [] else x.served i) (waits-same s x i k)
             ∙ ap (λ calls. if waits_at_terminate m s i then [] else calls) (k.served i)
             ∙ if-nil served_call (waits_at_terminate m s i) (process_at s.processes i).serving
             ∙ ap (map served_call) (sym (ended-serving s i));

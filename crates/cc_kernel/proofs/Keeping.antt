@@ -1,8 +1,7 @@
 -- The kernel keeps its run where a process goes out, and what a process asks is done.
-use Rattle.std.proofs.Common.{◌≡◌, ℕ, zero, suc, ◌+◌, ◌<◌, ◌≤◌, ℤ, Bool, true, false, List, [], ◌∷◌, ◌++◌, length, set, map, refl, sym, ap, ◌∙◌, subst, arith, append_assoc, cond, nat_eq, rules}
+use Rattle.std.proofs.Common.{◌≡◌, ℕ, zero, suc, ◌+◌, ◌<◌, ◌≤◌, ℤ, true, false, List, [], ◌∷◌, ◌++◌, length, set, map, refl, sym, ap, ◌∙◌, subst, arith, append_assoc}
 use Rattle.std.specs.Prelude.{All}
-use Rattle.std.specs.List.{filter}
-use Rattle.std.proofs.lemmas.List.Elements.{All-cons, All-head, All-nil, All-tail}
+use Rattle.std.proofs.lemmas.List.Elements.{All-nil}
 use Rattle.std.proofs.lemmas.List.{length-set, set-get_or}
 use Rattle.cc_base.specs.Meaning.{Meaning}
 use Rattle.cc_base.specs.declared.request.Grant.{Grant}
@@ -11,11 +10,13 @@ use Rattle.cc_kernel.specs.Invariant.{IsKept, IsReadyFor}
 use Rattle.cc_kernel.proofs.Resting.{rest-out}
 use Rattle.cc_kernel.specs.Resting.{AllRest, RestsSo}
 use Rattle.cc_kernel.specs.Store.{IsReady, IsState, Contents, Seated, contents}
-use Rattle.cc_kernel.specs.Lists.{CallList, SeatList, ServedList}
+use Rattle.cc_kernel.specs.Lists.{CallList, SeatList, ServedCalls}
 use Rattle.cc_rules.specs.Lists.{FaultList}
 use Rattle.cc_base.specs.Limits.{most_processes}
 use Rattle.cc_base.specs.declared.request.Grant.TheVariants.{Go}
-use Rattle.cc_kernel.specs.Seats.{is_served_by, seat_at, served_call, with_out, with_ready}
+use Rattle.cc_kernel.specs.Seats.{seat_at, served_call, with_out, with_ready}
+use Rattle.cc_kernel.specs.Stacks.{AreWithin, served_by}
+use Rattle.cc_base.specs.Grants.{value_cells}
 use Rattle.cc_kernel.specs.declared.served.ServedCall.{ServedCall}
 use Rattle.cc_kernel.specs.declared.store.Store.{Store}
 use Rattle.cc_kernel.specs.declared.need.Need.{Need}
@@ -92,6 +93,7 @@ module _ {P : Type 0} (m : Meaning) (located : P → ℕ → List ℤ → List G
         spent_turns = k.spent_turns;
         within = k.within;
         low = k.low;
+        cells = k.cells;
         ready = ready-seats store room x seats spare k.ready;
         unlisted = k.unlisted;
         listable = k.listable;
@@ -99,16 +101,16 @@ module _ {P : Type 0} (m : Meaning) (located : P → ℕ → List ℤ → List G
 
   -- the first process is ready
   pub kept-first :
-      (allowed room : ℕ) (input : List ℕ) (seats : SeatList P) (pending : CallList) (served : ServedList) (events : List Event) (faults : FaultList) (process : P)
+      (allowed room : ℕ) (input : List ℕ) (seats : SeatList P) (pending : CallList) (served : ServedCalls) (events : List Event) (faults : FaultList) (process : P)
       → seats.items ≡ with_ready process Go ∷ []
       → pending.items ≡ []
-      → served.items ≡ []
+      → served_by served ≡ (λ p. [])
       → events ≡ []
       → faults.items ≡ []
       → most_processes ≤ faults.spare
       → located process 0 [] []
       → IsKept m located allowed 0 events room
-      (record { seats = seats; pending = pending; served = served; drawn = 0; input = input; taken = 0; moment = 0 })
+      (record { seats = seats; pending = pending; served = served; drawn = 0; input = input; taken = 0; moment = 0; most = 0 })
       need.Nothing faults
   kept-first allowed room input seats pending served events faults process here none none' begun unlisted listable is =
       rw begun
@@ -120,7 +122,7 @@ module _ {P : Type 0} (m : Meaning) (located : P → ℕ → List ℤ → List G
               seated = rw here (record { standing = refl; whereabouts = (refl, ([], refl, is)); plain = tt }, tt);
               few = rw here (omega arith);
               pending = none;
-              served = λ i. ap (filter (is_served_by i)) none' ∙ sym (first-serves i);
+              served = λ i. ap (λ (f : ℕ → List ServedCall). f i) none' ∙ sym (first-serves i);
               drawn = refl;
               input = refl;
               moment = refl;
@@ -132,6 +134,7 @@ module _ {P : Type 0} (m : Meaning) (located : P → ℕ → List ℤ → List G
         spent_turns = refl;
         within = omega arith;
         low = omega arith;
+        cells = λ p. subst (λ (f : ℕ → List ServedCall). All (λ call. value_cells m call.trans ≤ 0) (f p)) (sym none') (All-nil (λ call. value_cells m call.trans ≤ 0));
         ready = tt;
         unlisted = unlisted;
         listable = listable;
@@ -179,6 +182,13 @@ legal-ask :
     → is_legal m s (Ask p (word_of r)) ≡ true
 legal-ask m s p r due h e = rw (due, h, e) (same_word-same (request_at m s p))
 
+pub legal-now :
+    (m : Meaning) (s : State) (p : Pid) (r : Request)
+    → is_running (process_at s.processes p.0).standing ≡ true
+    → r ≡ request_at m s p
+    → is_legal m s (Ask p (word_of r)) ≡ true
+legal-now m s p r running asks = legal-ask m s p r (running-not-due m s p.0 (running-within s.processes p.0 running) running) running asks
+
 module _ {P : Type 0} (m : Meaning) (located : P → ℕ → List ℤ → List Grant → Type 0) where
   -- the kernel goes on with what a process asks, and settles
   pub kept-commit :
@@ -192,9 +202,10 @@ module _ {P : Type 0} (m : Meaning) (located : P → ℕ → List ℤ → List G
       → store'.input ≡ store.input
       → IsState located (effect m (state_after m store.input events) p r) (contents asked)
       → AllRest m (contents store')
+      → AreWithin m store'.most (served_by store'.served)
       → ((s : State) → IsState located s (contents asked) → Settles m located s (events ++ Ask p (word_of r) ∷ []) more (contents store'))
       → IsKept m located allowed (spent + 1) more room' store' need.Nothing faults
-  kept-commit allowed spent events more room room' store asked store' x faults p r k running asks left low same-drawn same-input st rest settles =
+  kept-commit allowed spent events more room room' store asked store' x faults p r k running asks left low same-drawn same-input st rest cells settles =
       let s = state_after m store.input events in
       let first = first_state store.input in
       let e : Event = Ask p (word_of r) in
@@ -207,7 +218,7 @@ module _ {P : Type 0} (m : Meaning) (located : P → ℕ → List ℤ → List G
       let last : state_after m store.input (events ++ e ∷ es) ≡ after m (next m s e) es = after-append m first events (e ∷ es) in
       let quiet = done.settled in
       let settled = IsSettled-by_test m (after m (next m s e) es) quiet in
-      let legal = legal-ask m s p r (running-not-due m s p.0 (running-within s.processes p.0 running) running) running asks in
+      let legal = legal-now m s p r running asks in
       record {
         runs =
             (let F : List ℕ → Type 0 = λ input. IsRun m input more in
@@ -233,38 +244,19 @@ module _ {P : Type 0} (m : Meaning) (located : P → ℕ → List ℤ → List G
             rw whole (omega (arith, t, t', u, z)));
         within = omega (arith, left);
         low = (let l = k.low in omega (arith, l, low, same-drawn));
+        cells = cells;
         ready = tt;
         unlisted = k.unlisted;
         listable = k.listable;
       }
-
-all-filtered :
-    (F : ServedCall → Type 0) (calls : List ServedCall)
-    → ((i : ℕ) → All F (filter (is_served_by i) calls))
-    → All F calls
-all-filtered F [] h = All-nil F
-all-filtered F (call ∷ calls) h =
-    All-cons F call calls
-    (All-head F call (filter (is_served_by call.target.0) calls) (so (nat_eq call.target.0 call.target.0) (same-number call.target.0) (filter (is_served_by call.target.0) calls) (h call.target.0)))
-    (all-filtered F calls (λ i. rest (is_served_by i call) (filter (is_served_by i) calls) (h i)))
-  where
-    same-number : (n : ℕ) → nat_eq n n ≡ true
-    same-number n = search rules
-
-    so : (b : Bool) → b ≡ true → (others : List ServedCall) → All F (cond b (call ∷ others) others) → All F (call ∷ others)
-    so true e others k = k
-    so false e others k = cc
-
-    rest : (b : Bool) (others : List ServedCall) → All F (cond b (call ∷ others) others) → All F others
-    rest true others k = All-tail F call others k
-    rest false others k = k
 
 -- what holds of the calls that each process serves holds of the kept ones
 pub all-served :
     {P : Type 0} (F : ServedCall → Type 0) (located : P → ℕ → List ℤ → List Grant → Type 0) (s : State) (x : Contents P)
     → IsState located s x
     → ((p : ℕ) → All F (map served_call (process_at s.processes p).serving))
-    → All F x.served
-all-served F located s x k h =
+    → (p : ℕ)
+    → All F (x.served p)
+all-served F located s x k h p =
     let G : List ServedCall → Type 0 = λ calls. All F calls in
-    all-filtered F x.served (λ i. subst G (sym (k.served i)) (h i))
+    subst G (sym (k.served p)) (h p)

@@ -1,5 +1,5 @@
 -- In a run of a well-formed program, what is served and what a running process asks names what is there.
-use Rattle.std.proofs.Common.{◌≡◌, ℕ, ◌<◌, ℤ, List, length, map, true, inr, refl, subst, Option, Some, None}
+use Rattle.std.proofs.Common.{◌≡◌, ℕ, ◌<◌, ℤ, List, length, map, true, inl, inr, refl, ◌++◌, [], ◌∷◌, get_or, subst, Option, Some, None}
 use Rattle.std.proofs.lemmas.List.Elements.{All-contains_itself, All-map}
 use Rattle.std.specs.List.{All, Contains}
 use Rattle.std.specs.Option.{option_map}
@@ -15,14 +15,17 @@ use Rattle.cc_kernel.specs.Contract.{IsReadyWith}
 use Rattle.cc_kernel.specs.Store.{IsReady}
 use Rattle.cc_kernel.specs.Seats.{served_call}
 use Rattle.cc_kernel.specs.declared.served.ServedCall.{ServedCall}
+use Rattle.cc_rules.proofs.GoOn.{IsRunFrom-append, after-append}
 use Rattle.cc_rules.proofs.Own.{own-sound}
 use Rattle.cc_rules.proofs.Proper.{IsNext-last}
 use Rattle.cc_rules.proofs.SoundRun.{Sound-run}
-use Rattle.cc_rules.specs.Events.{request_at}
+use Rattle.cc_rules.specs.Events.{is_legal, next, request_at}
 use Rattle.cc_rules.specs.Runs.{IsRun, state_after}
 use Rattle.cc_rules.specs.Sound.{Sound}
-use Rattle.cc_rules.specs.State.{is_running, process_at}
+use Rattle.cc_rules.specs.State.{first_state, is_running, process_at}
 use Rattle.cc_rules.specs.declared.event.Event.{Event}
+use Rattle.cc_rules.specs.declared.event.Event.TheVariants.{Ask}
+use Rattle.cc_rules.specs.declared.event.Word.{Word}
 use Rattle.cc_rules.specs.declared.process.TransactionCall.{TransactionCall}
 
 -- a transaction with argument cells exists
@@ -47,6 +50,22 @@ module _ (m : Meaning) (wf : WellFormed m) (input : List ℕ) (events : List Eve
       let calls = (process_at (state_after m input events).processes p).serving in
       All-map (λ (call : ServedCall). call.trans < length m.shapes) served_call calls
       (λ i d within. served-exists p _ (All-contains_itself calls i d within))
+
+  -- each call that is pending after a legal Ask is one of a transaction that exists
+  pub known-pending :
+      (p : Pid) (w : Word)
+      → is_legal m (state_after m input events) (Ask p w) ≡ true
+      → All (λ (call : TransactionCall). call.trans < length m.shapes) (next m (state_after m input events) (Ask p w)).pending
+  known-pending p w legal =
+      let e : Event = Ask p w in
+      let s = state_after m input events in
+      let run : IsRun m input (events ++ e ∷ []) = IsRunFrom-append m (first_state input) events (e ∷ []) runs (legal, tt) in
+      let last : state_after m input (events ++ e ∷ []) ≡ next m s e = after-append m (first_state input) events (e ∷ []) in
+      let sound' : Sound m (next m s e) = subst (Sound m) last (Sound-run m input (events ++ e ∷ []) wf run) in
+      let calls = (next m s e).pending in
+      λ i d within.
+      transaction-exists m (get_or calls i d).trans (length (get_or calls i d).args)
+      (sound'.each_call (get_or calls i d) (inl (All-contains_itself calls i d within))).arguments
 
   -- what a running process asks is one of the program's requests
   pub known-request : (p : Pid) → is_running (process_at (state_after m input events).processes p.0).standing ≡ true → IsRequestOf m (request_at m (state_after m input events) p)

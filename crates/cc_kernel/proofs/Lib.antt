@@ -1,9 +1,11 @@
 pub mod Untimed
 pub mod Loops
 pub mod Places
+pub mod Stacks
 pub mod Walking
 pub mod Serving
 pub mod Seated
+pub mod Gone
 pub mod Outs
 pub mod Chosen
 pub mod Simulates

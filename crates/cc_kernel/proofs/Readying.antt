@@ -1,5 +1,5 @@
 -- The kernel keeps its run where it is prepared.
-use Rattle.std.proofs.Common.{◌≡◌, ℕ, ℤ, List, length, sym, ap, ◌∙◌, subst, arith, true, false, Option, Some, None}
+use Rattle.std.proofs.Common.{◌≡◌, ℕ, ℤ, List, length, refl, sym, ap, ◌∙◌, subst, arith, true, false, Option, Some, None}
 use Rattle.std.specs.Prelude.{IfSome, map}
 use Rattle.cc_base.specs.Grants.{HasKind}
 use Rattle.cc_base.specs.Meaning.{Meaning}
@@ -11,6 +11,8 @@ use Rattle.cc_base.specs.declared.request.Request.TheVariants.{Create}
 use Rattle.cc_base.specs.declared.request.Request.TheVariants as request
 use Rattle.cc_kernel.proofs.Outs.{out-at}
 use Rattle.cc_kernel.proofs.Seated.{Seated-at, out-running}
+use Rattle.cc_kernel.proofs.Stacks.{within-same}
+use Rattle.cc_kernel.specs.Stacks.{served_by}
 use Rattle.cc_kernel.specs.Resting.{AllRest}
 use Rattle.cc_kernel.specs.Contract.{AsksNow, IsEnoughFor, Nothing, is_out_in}
 use Rattle.cc_kernel.specs.Invariant.{HasRoom, IsKept, IsReadyFor, prepared_for}
@@ -60,9 +62,10 @@ module _ {P : Type 0} (m : Meaning) (located : P → ℕ → List ℤ → List G
       (allowed spent : ℕ) (events : List Event) (room room' : ℕ) (store store' : Store P) (x x' : Need P) (faults : FaultList)
       → IsKept m located allowed spent events room store x faults
       → contents store' ≡ contents store
+      → store'.most ≡ store.most
       → IsReadyFor m located store' room' x'
       → IsKept m located allowed spent events room' store' x' faults
-  kept-prepared allowed spent events room room' store store' x x' faults k same ready =
+  kept-prepared allowed spent events room room' store store' x x' faults k same same-most ready =
       let same-input : store'.input ≡ store.input = ap (λ (y : Contents P). y.input) same in
       let same-drawn : store'.drawn ≡ store.drawn = ap (λ (y : Contents P). y.drawn) same in
       record {
@@ -79,10 +82,25 @@ module _ {P : Type 0} (m : Meaning) (located : P → ℕ → List ℤ → List G
         spent_turns = k.spent_turns;
         within = k.within;
         low = (let l = k.low in omega (arith, l, same-drawn));
+        cells = within-same m store.most store'.most (served_by store.served) (served_by store'.served) same-most (ap (λ (y : Contents P). y.served) same) k.cells;
         ready = ready;
         unlisted = k.unlisted;
         listable = k.listable;
       }
+
+  -- what was made stays enough where the same calls are served and the room stays
+  pub ready-stays :
+      (store store' : Store P) (room room' : ℕ) (x : Need P)
+      → served_by store'.served ≡ served_by store.served
+      → (HasRoom store room → HasRoom store' room')
+      → IsReadyFor m located store room x
+      → IsReadyFor m located store' room' x
+  ready-stays store store' room room' need.Nothing e f h = tt
+  ready-stays store store' room room' need.Step e f h = f h
+  ready-stays store store' room room' (need.Making kind args process) e f h = (f h.0, h.1)
+  ready-stays store store' room room' (need.Answering value zeros) e f h =
+      (f h.0, within-same m zeros zeros (served_by store.served) (served_by store'.served) refl e h.1)
+  ready-stays store store' room room' need.Moment e f h = f h
 
 nothing-enough : (r : Request) → IsEnoughFor Nothing r → ⊥
 nothing-enough request.Pause h = cc

@@ -1,20 +1,19 @@
 -- A process answers the innermost call that it serves.
 use Rattle.std.proofs.Common.{◌≡◌, ◌≢◌, inl, inr, ℕ, zero, suc, ◌-◌, ◌<◌, ◌≤◌, ℤ, List, [], ◌∷◌, ◌++◌, length, set, map, take, refl, sym, ap, ◌∙◌, subst, arith, length-append, Some}
 use Rattle.std.specs.Prelude.{All, slice_get, pos, replicate}
-use Rattle.std.specs.List.{filter}
 use Rattle.std.specs.Option.{option_map_or}
 use Rattle.std.proofs.lemmas.List.{length-set}
-use Rattle.std.proofs.lemmas.List.Elements.{All-contains, Contains-append_right}
+use Rattle.std.proofs.lemmas.List.Elements.{All-cons, All-contains, All-head, All-nil, All-tail, Contains-append_right}
 use Rattle.cc_base.specs.Meaning.{Meaning}
 use Rattle.cc_base.specs.declared.names.Shape.{Shape}
 use Rattle.cc_base.specs.declared.request.Grant.{Grant}
 use Rattle.cc_base.specs.declared.request.Grant.TheVariants.{Go, Value}
 use Rattle.cc_kernel.proofs.Outs.{length-answered}
 use Rattle.cc_kernel.proofs.Seated.{Seated-answered, Seated-length, Seated-ready}
-use Rattle.cc_kernel.proofs.Serving.{split-others, split-own}
+use Rattle.cc_kernel.specs.Stacks.{IsInnermost}
 use Rattle.cc_kernel.proofs.Simulates.{same-or-not, serving-answered, serving-other, serving-own}
 use Rattle.cc_kernel.specs.Store.{IsLocated, IsState, Contents, went_on}
-use Rattle.cc_kernel.specs.Seats.{SplitsAt, answered_seats, is_served_by, served_call, with_ready}
+use Rattle.cc_kernel.specs.Seats.{answered_seats, served_call, with_ready}
 use Rattle.cc_kernel.specs.declared.served.ServedCall.{ServedCall}
 use Rattle.cc_base.specs.Grants.{value_cells}
 use Rattle.cc_rules.specs.Effects.{answered, granted, of_cells, replied, without_innermost}
@@ -75,17 +74,17 @@ map-none (x ∷ xs) h = cc
 module _ {P : Type 0} (m : Meaning) (located : P → ℕ → List ℤ → List Grant → Type 0) where
   -- what a process serves after it answered
   served-after :
-      (s : State) (x : Contents P) (p i : ℕ) (front : List TransactionCall) (left : List ServedCall)
+      (s : State) (x : Contents P) (p i : ℕ) (front : List TransactionCall) (left : ℕ → List ServedCall)
       → IsState located s x
       → p < length x.seats
-      → filter (is_served_by p) left ≡ map served_call front
-      → ((j : ℕ) → j ≢ p → filter (is_served_by j) left ≡ filter (is_served_by j) x.served)
-      → filter (is_served_by i) left ≡ map served_call (process_at (set s.processes p (record (granted (process_at s.processes p) Go) { serving = front })) i).serving
+      → left p ≡ map served_call front
+      → ((j : ℕ) → j ≢ p → left j ≡ x.served j)
+      → left i ≡ map served_call (process_at (set s.processes p (record (granted (process_at s.processes p) Go) { serving = front })) i).serving
   served-after s x p i front left k lt own others =
       let new : Process = record (granted (process_at s.processes p) Go) { serving = front } in
       elim (same-or-not i p) [
         | inl same ↦
-            ap (λ j. filter (is_served_by j) left) same
+            ap left same
             ∙ own
             ∙ sym (ap (map served_call) (ap (λ (r : Process). r.serving) (ap (λ j. process_at (set s.processes p new) j) same ∙ serving-own s.processes p new (rw (Seated-length located s.processes x.seats k.seated) lt))))
         | inr ne ↦ others i ne ∙ k.served i ∙ ap (map served_call) (sym (serving-other s.processes p i new ne))
@@ -107,7 +106,7 @@ module _ {P : Type 0} (m : Meaning) (located : P → ℕ → List ℤ → List G
       (s : State) (x : Contents P) (p : ℕ) (process : P) (asked : List ℤ)
       → IsState located s x
       → p < length x.seats
-      → filter (is_served_by p) x.served ≡ []
+      → x.served p ≡ []
       → IsLocated located s p process
       → IsState located (replied-by s p asked []) (went_on x p process Go)
   reply-none s x p process asked k lt none is =
@@ -127,7 +126,7 @@ module _ {P : Type 0} (m : Meaning) (located : P → ℕ → List ℤ → List G
       (s : State) (x : Contents P) (p : ℕ) (process : P) (asked : List ℤ)
       → IsState located s x
       → p < length x.seats
-      → filter (is_served_by p) x.served ≡ []
+      → x.served p ≡ []
       → IsLocated located s p process
       → IsState located (replied m s p asked) (went_on x p process Go)
   state-reply-none s x p process asked k lt none is =
@@ -135,11 +134,11 @@ module _ {P : Type 0} (m : Meaning) (located : P → ℕ → List ℤ → List G
       subst F (sym (map-none (process_at s.processes p).serving (sym (k.served p) ∙ none))) (reply-none s x p process asked k lt none is)
 
   reply-some :
-      (s : State) (x : Contents P) (p : ℕ) (process : P) (asked : List ℤ) (call : TransactionCall) (left : List ServedCall) (front : List TransactionCall)
+      (s : State) (x : Contents P) (p : ℕ) (process : P) (asked : List ℤ) (call : TransactionCall) (left : ℕ → List ServedCall) (front : List TransactionCall)
       → IsState located s x
       → p < length x.seats
-      → SplitsAt p (served_call call) x.served left
-      → map served_call front ≡ filter (is_served_by p) left
+      → IsInnermost p (served_call call) x.served left
+      → map served_call front ≡ left p
       → IsLocated located s p process
       → IsState located (replied-by s p asked (front ++ call ∷ []))
       (record x {
@@ -156,7 +155,7 @@ module _ {P : Type 0} (m : Meaning) (located : P → ℕ → List ℤ → List G
         few = rw (length-answered (set x.seats p (with_ready process Go)) (served_call call) grant, length-set) k.few;
         pending = k.pending;
         served = λ i.
-            served-after s x p i front left k lt (sym own) (λ j ne. split-others j p (served_call call) x.served left split ne)
+            served-after s x p i front left k lt (sym own) split.others
             ∙ ap (map served_call) (sym (serving-answered (set s.processes p new) call i grant));
         drawn = k.drawn;
         input = k.input;
@@ -166,10 +165,10 @@ module _ {P : Type 0} (m : Meaning) (located : P → ℕ → List ℤ → List G
       })
 
   pub state-reply :
-      (s : State) (x : Contents P) (p : ℕ) (process : P) (asked : List ℤ) (c : ServedCall) (left : List ServedCall)
+      (s : State) (x : Contents P) (p : ℕ) (process : P) (asked : List ℤ) (c : ServedCall) (left : ℕ → List ServedCall)
       → IsState located s x
       → p < length x.seats
-      → SplitsAt p c x.served left
+      → IsInnermost p c x.served left
       → IsLocated located s p process
       → IsState located (replied m s p asked)
       (record x {
@@ -177,7 +176,7 @@ module _ {P : Type 0} (m : Meaning) (located : P → ℕ → List ℤ → List G
         served = left;
       })
   state-reply s x p process asked c left k lt split is =
-      let r = ends-so (process_at s.processes p).serving (filter (is_served_by p) left) c (sym (k.served p) ∙ split-own p c x.served left split) in
+      let r = ends-so (process_at s.processes p).serving (left p) c (sym (k.served p) ∙ split.own) in
       let F : List TransactionCall → Type 0 = λ serving.
       IsState located (replied-by s p asked serving)
       (record x {
@@ -185,7 +184,7 @@ module _ {P : Type 0} (m : Meaning) (located : P → ℕ → List ℤ → List G
         served = left;
       }) in
       let G : ServedCall → Type 0 = λ d.
-      SplitsAt p d x.served left
+      IsInnermost p d x.served left
       → IsState located (replied-by s p asked (r.0 ++ r.1 ∷ []))
       (record x {
         seats = answered_seats (set x.seats p (with_ready process Go)) d (Value (of_cells (value_cells m d.trans) asked));
@@ -194,11 +193,29 @@ module _ {P : Type 0} (m : Meaning) (located : P → ℕ → List ℤ → List G
       subst F (sym r.2) (subst G r.4 (λ split'. reply-some s x p process asked r.1 left r.0 k lt split' r.3 is) split)
 
 -- what holds of all served calls holds of the one that is taken out
-pub of-split :
-    (F : ServedCall → Type 0) (p : ℕ) (call : ServedCall) (old left : List ServedCall)
-    → SplitsAt p call old left
-    → All F old
+pub of-innermost :
+    (F : ServedCall → Type 0) (p : ℕ) (call : ServedCall) (old left : ℕ → List ServedCall)
+    → IsInnermost p call old left
+    → ((q : ℕ) → All F (old q))
     → F call
-of-split F p call old left split all =
+of-innermost F p call old left split all =
     let G : List ServedCall → Type 0 = λ calls. All F calls in
-    All-contains F (split.before ++ call ∷ split.behind) call (subst G split.whole all) (Contains-append_right split.before (call ∷ split.behind) call (0, omega arith, refl))
+    All-contains F (left p ++ call ∷ []) call (subst G split.own (all p)) (Contains-append_right (left p) (call ∷ []) call (0, omega arith, refl))
+
+-- and of those that are left
+pub of-others :
+    (F : ServedCall → Type 0) (p : ℕ) (call : ServedCall) (old left : ℕ → List ServedCall)
+    → IsInnermost p call old left
+    → ((q : ℕ) → All F (old q))
+    → (q : ℕ)
+    → All F (left q)
+of-others F p call old left split all q =
+    let G : List ServedCall → Type 0 = λ calls. All F calls in
+    elim (same-or-not q p) [
+      | inl same ↦ subst (λ r. All F (left r)) (sym same) (all-front (left p) (subst G split.own (all p)))
+      | inr ne ↦ subst G (sym (split.others q ne)) (all q)
+    ]
+  where
+    all-front : (xs : List ServedCall) → All F (xs ++ call ∷ []) → All F xs
+    all-front [] h = All-nil F
+    all-front (x ∷ xs) h = All-cons F x xs (All-head F x (xs ++ call ∷ []) h) (all-front xs (All-tail F x (xs ++ call ∷ []) h))

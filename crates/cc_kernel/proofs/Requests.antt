@@ -1,6 +1,6 @@
 -- What each request does to what is kept.
-use Rattle.std.proofs.Common.{◌≡◌, ℕ, zero, suc, ◌<◌, ◌≤◌, ℤ, Bool, true, false, not, List, [], ◌∷◌, ◌++◌, length, set, map, refl, sym, ap, ◌∙◌, subst, arith}
-use Rattle.std.specs.Prelude.{All, if◌then◌else◌, nat_lt, pos, replicate}
+use Rattle.std.proofs.Common.{◌≡◌, ℕ, zero, suc, ◌<◌, ℤ, Bool, true, false, not, List, [], ◌∷◌, ◌++◌, length, set, map, refl, sym, ap, ◌∙◌, subst, arith}
+use Rattle.std.specs.Prelude.{if◌then◌else◌, nat_lt, pos, replicate}
 use Rattle.std.proofs.lemmas.Bool.Decides.{nat_tests}
 use Rattle.std.proofs.lemmas.List.{map-set}
 use Rattle.cc_base.specs.Meaning.{Meaning}
@@ -17,12 +17,14 @@ use Rattle.cc_kernel.specs.Untimed.{NoDelays}
 use Rattle.cc_kernel.specs.Contract.{Answering, IsEnoughFor, Making, SameOuts, is_out_in}
 use Rattle.cc_kernel.specs.Invariant.{IsReadyFor, prepared_for}
 use Rattle.cc_kernel.specs.Store.{IsLocated, IsState, Contents, called_contents, left_contents, made_contents, sent_contents, waited, went_on}
-use Rattle.cc_kernel.specs.Seats.{is_out, is_served_by, seat_at, served_call, with_left, with_ready, with_waiting}
+use Rattle.cc_kernel.specs.Seats.{is_out, seat_at, served_call, with_left, with_ready, with_waiting}
 use Rattle.cc_kernel.specs.declared.store.Store.{Store}
 use Rattle.cc_kernel.specs.declared.need.Need.{Need}
 use Rattle.cc_kernel.specs.declared.need.Need.TheVariants as need
 use Rattle.cc_kernel.specs.declared.seat.Seat.{Seat}
-use Rattle.cc_base.specs.Grants.{value_cells}
+use Rattle.cc_kernel.specs.Stacks.{AreWithin, served_by}
+use Rattle.cc_kernel.specs.declared.served.ServedCall.{ServedCall}
+use Rattle.cc_kernel.proofs.Stacks.{within-left, within-same}
 use Rattle.cc_base.specs.Limits.{most_processes}
 use Rattle.cc_rules.specs.Effects.{called, effect, ended, grant_to, is_for, with_standing}
 use Rattle.cc_rules.specs.State.{State, is_over, made, process_at}
@@ -136,7 +138,7 @@ module _ {P : Type 0} (m : Meaning) (located : P → ℕ → List ℤ → List G
       → x ≡ need.Answering value zeros
       → prepared_for x ≡ Answering (asked ++ replicate zeros' (pos 0)) zeros'
       → IsReadyFor m located store events x
-      → (value ≡ asked ++ replicate zeros' (pos 0)) × All (λ call. value_cells m call.trans ≤ zeros') store.served.items
+      → (value ≡ asked ++ replicate zeros' (pos 0)) × AreWithin m zeros' (served_by store.served)
   answer-made store events x value asked zeros zeros' e enough ready =
       let F : Need P → Type 0 = λ y. IsReadyFor m located store events y in
       let h = subst F e ready in
@@ -160,7 +162,7 @@ module _ {P : Type 0} where
       (x : Contents P) (p : ℕ) (standing : ProcessStanding)
       → map is_out (left_contents x p standing).seats ≡ set (map is_out x.seats) p false
   outs-left x p standing =
-      outs-gone (_) (filter (is_served_by p) x.served)
+      outs-gone (_) (x.served p)
       ∙ outs-gone (set x.seats p (with_left standing)) (map served_call (filter (is_for p) x.pending))
       ∙ map-set is_out x.seats p (with_left standing)
 
@@ -186,3 +188,40 @@ module _ {P : Type 0} where
       ∙ push-out (map is_out (set x.seats p seat)) i
       ∙ ap (λ xs. is_out_in xs i) (map-set is_out x.seats p seat)
   outs-create x p process new standing false i = ap (λ xs. is_out_in xs i) (outs-left x p standing)
+
+module _ {P : Type 0} (m : Meaning) (x : Contents P) (most most' : ℕ) (by : ℕ → List ServedCall) where
+  -- the most cells of a served call, where a process is over
+  pub cells-left :
+      (p : ℕ) (standing : ProcessStanding)
+      → most' ≡ most
+      → by ≡ (left_contents x p standing).served
+      → AreWithin m most x.served
+      → AreWithin m most' by
+  cells-left p standing e k h = within-left m most most' x.served by p e k h
+
+  pub cells-call :
+      (p : Pid) (process : P) (target : Pid) (trans : ℕ) (args : List ℤ) (b : Bool)
+      → most' ≡ most
+      → by ≡ (if b then went_on x p.0 process Gone else called_contents x p process target trans args).served
+      → AreWithin m most x.served
+      → AreWithin m most' by
+  cells-call p process target trans args true e k h = within-same m most most' x.served by e k h
+  cells-call p process target trans args false e k h = within-same m most most' x.served by e k h
+
+  pub cells-send :
+      (p : Pid) (process : P) (target : Pid) (trans : ℕ) (args : List ℤ) (b : Bool)
+      → most' ≡ most
+      → by ≡ (if b then went_on x p.0 process Go else sent_contents x p process target trans args).served
+      → AreWithin m most x.served
+      → AreWithin m most' by
+  cells-send p process target trans args true e k h = within-same m most most' x.served by e k h
+  cells-send p process target trans args false e k h = within-same m most most' x.served by e k h
+
+  pub cells-create :
+      (p : ℕ) (process new : P) (standing : ProcessStanding) (b : Bool)
+      → most' ≡ most
+      → by ≡ (if b then made_contents x p process new else left_contents x p standing).served
+      → AreWithin m most x.served
+      → AreWithin m most' by
+  cells-create p process new standing true e k h = within-same m most most' x.served by e k h
+  cells-create p process new standing false e k h = cells-left p standing e k h

@@ -19,7 +19,8 @@ use Rattle.cc_kernel.proofs.Seated.{same-standing}
 use Rattle.cc_kernel.specs.Choice.{after_end, due_in, eligible_for, seat_may_end, seat_waits, some_immediate}
 use Rattle.cc_kernel.specs.Counted.{all_may_end, ended_seat, may_terminate}
 use Rattle.cc_kernel.specs.Resting.{AllRest, RestBut, RestsAt, RestsSo}
-use Rattle.cc_kernel.specs.Seats.{answered_seats, gone_seats, is_served_by, no_call, seat_at, served_call, vacant, with_left, with_out, with_ready, with_waiting, woken}
+use Rattle.cc_kernel.proofs.Stacks.{same-everywhere}
+use Rattle.cc_kernel.specs.Seats.{answered_seats, gone_seats, no_call, seat_at, served_call, vacant, with_left, with_out, with_ready, with_waiting, woken}
 use Rattle.cc_kernel.specs.Settles.{IsCalm}
 use Rattle.cc_kernel.specs.Store.{Contents, IsState, accepted_contents, called_contents, chose_contents, ended_contents, left_contents, made_contents, sent_contents, waited, went_on}
 use Rattle.cc_kernel.specs.declared.seat.Seat.{Seat}
@@ -76,10 +77,6 @@ any-none p (x ∷ xs) d h = or-false (p x) (list_any p xs) (h 0 (omega arith)) (
 none-of : {X : Type 0} (p : X → Bool) → ((x : X) → p x ≡ false) → (xs : List X) → list_any p xs ≡ false
 none-of p h [] = refl
 none-of p h (x ∷ xs) = or-false (p x) (list_any p xs) (h x) (none-of p h xs)
-
-filter-same : (p q : ServedCall → Bool) → ((call : ServedCall) → p call ≡ q call) → (calls : List ServedCall) → filter p calls ≡ filter q calls
-filter-same p q h [] = refl
-filter-same p q h (call ∷ calls) = rw (h call, filter-same p q h calls) refl
 
 module _ (m : Meaning) where
   -- with other calls of which none is eligible where none of these is
@@ -204,9 +201,9 @@ module _ (m : Meaning) where
         filtered-at
         (gone_seats
         (gone_seats (set x.seats p (with_left standing)) (map served_call (filter (is_for p) x.pending)))
-        (filter (is_served_by p) x.served))
+        (x.served p))
         (λ call. not (is_for p call)) x.pending q
-        (rest-gone (gone_seats (set x.seats p (with_left standing)) (map served_call (filter (is_for p) x.pending))) x.pending (filter (is_served_by p) x.served)
+        (rest-gone (gone_seats (set x.seats p (with_left standing)) (map served_call (filter (is_for p) x.pending))) x.pending (x.served p)
         (rest-gone (set x.seats p (with_left standing)) x.pending (map served_call (filter (is_for p) x.pending))
         (rest-set x.seats x.pending p (with_left standing) (rests-over p standing x.pending over) all))
         q)
@@ -303,9 +300,13 @@ module _ (m : Meaning) where
     pub served-rests :
         (x : Contents P)
         → AllRest m x
-        → filter (λ call. not (may_terminate (seat_at x.seats call.target.0).standing)) x.served
-        ≡ filter (λ call. not (seat_waits m x.seats x.pending call.target.0)) x.served
-    served-rests x all = filter-same _ _ (λ call. ap not (sym (waits-rests x call.target.0 all))) x.served
+        → ◌≡◌ {A = ℕ → List ServedCall}
+        (λ p. if may_terminate (seat_at x.seats p).standing then [] else x.served p)
+        (λ p. if seat_waits m x.seats x.pending p then [] else x.served p)
+    served-rests x all =
+        same-everywhere (λ (p : ℕ). if may_terminate (seat_at x.seats p).standing then [] else x.served p)
+        (λ (p : ℕ). if seat_waits m x.seats x.pending p then [] else x.served p)
+        (λ p. ap (λ b. if b then [] else x.served p) (sym (waits-rests x p all)))
 
     -- after the collective end, too
     pub rest-ended : (x : Contents P) → AllRest m x → AllRest m (ended_contents m x)

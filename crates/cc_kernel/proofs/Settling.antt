@@ -1,14 +1,14 @@
 -- A call or an immediate alternative is taken: it is legal, and what is kept goes on as the state does.
-use Rattle.std.proofs.Common.{rules, ◌≡◌, ◌≢◌, inl, inr, ℕ, zero, suc, ◌<◌, ℤ, Bool, true, false, ◌||◌, cond, not, List, [], ◌∷◌, ◌++◌, length, set, map, refl, sym, ap, ◌∙◌, arith, nat_eq, append_assoc, append-nil, Option, Some, None, ◌&&◌}
+use Rattle.std.proofs.Common.{◌≡◌, inl, inr, ℕ, zero, suc, ◌<◌, ℤ, Bool, true, false, ◌||◌, not, List, [], ◌∷◌, ◌++◌, length, set, map, refl, sym, ap, ◌∙◌, arith, nat_eq, append_assoc, append-nil, Option, Some, None, ◌&&◌}
 use Rattle.std.specs.Prelude.{if◌then◌else◌}
 use Rattle.std.specs.List.{filter, list_all}
 use Rattle.std.proofs.lemmas.Bool.{eqb-true}
 use Rattle.std.proofs.lemmas.List.{length-set}
-use Rattle.std.proofs.lemmas.List.Elements.{All-nil, All-push, filter-append}
+use Rattle.std.proofs.lemmas.List.Elements.{All-nil, All-push}
 use Rattle.cc_base.specs.Meaning.{Meaning}
 use Rattle.cc_base.specs.declared.request.Grant.{Grant}
 use Rattle.cc_base.specs.declared.request.Grant.TheVariants.{Chose, Took}
-use Rattle.cc_kernel.proofs.Plain.{any-numbered, choosing-not-due, false-from, takes-eligible}
+use Rattle.cc_kernel.proofs.Plain.{any-numbered, choosing-not-due, takes-eligible}
 use Rattle.cc_kernel.proofs.Seated.{Seated-at, Seated-length, Seated-set, same-standing, woken-fits}
 use Rattle.cc_kernel.proofs.Serving.{AllUntimed-filter, Rising-filter, found-at}
 use Rattle.cc_kernel.proofs.Simulates.{map-append, same-or-not, serving-other, serving-own, serving-set}
@@ -22,7 +22,9 @@ use Rattle.cc_rules.specs.Choice.{accepts, call_numbered, goes_before, has_eligi
 use Rattle.std.specs.Option.{option_map_or}
 use Rattle.std.proofs.lemmas.Bool.{and_parts}
 use Rattle.cc_kernel.specs.Store.{IsState, Contents, accepted_contents, chose_contents}
-use Rattle.cc_kernel.specs.Seats.{is_served_by, no_call, seat_at, served_call, woken}
+use Rattle.cc_kernel.specs.Seats.{no_call, seat_at, served_call, woken}
+use Rattle.cc_kernel.proofs.Stacks.{one-more-other, one-more-own}
+use Rattle.cc_kernel.specs.Stacks.{one_more}
 use Rattle.cc_kernel.specs.Settles.{GoesOn, TakesOne}
 use Rattle.cc_kernel.specs.declared.seat.Seat.{Seat}
 use Rattle.cc_kernel.specs.declared.served.ServedCall.{ServedCall}
@@ -84,43 +86,24 @@ chosen-target m p (Some alt.Now) calls call h = cc
 chosen-target m p (Some alt.Terminate) calls call h = cc
 
 served-more :
-    (i p : ℕ) (call : TransactionCall) (served : List ServedCall) (qs : List Process) (q : Process)
-    → call.target.0 ≡ p
+    (i p : ℕ) (call : TransactionCall) (served : ℕ → List ServedCall) (qs : List Process) (q : Process)
     → p < length qs
     → q.serving ≡ (process_at qs p).serving ++ call ∷ []
-    → filter (is_served_by i) served ≡ map served_call (process_at qs i).serving
-    → filter (is_served_by i) (served ++ served_call call ∷ []) ≡ map served_call (process_at (set qs p q) i).serving
-served-more i p call served qs q here lt e h =
-    filter-append (is_served_by i) served (served_call call ∷ [])
-    ∙ elim (same-or-not i p) [
+    → served i ≡ map served_call (process_at qs i).serving
+    → one_more served p (served_call call) i ≡ map served_call (process_at (set qs p q) i).serving
+served-more i p call served qs q lt e h =
+    elim (same-or-not i p) [
       | inl same ↦
-          ap (λ xs. filter (is_served_by i) served ++ xs) (own i same)
-          ∙ ap (λ xs. xs ++ served_call call ∷ []) (h ∙ ap (λ j. map served_call (process_at qs j).serving) same)
+          ap (one_more served p (served_call call)) same
+          ∙ one-more-own served p (served_call call)
+          ∙ ap (λ xs. xs ++ served_call call ∷ []) (sym (ap served same) ∙ h ∙ ap (λ j. map served_call (process_at qs j).serving) same)
           ∙ sym (map-append served_call (process_at qs p).serving (call ∷ []))
           ∙ ap (map served_call) (sym (ap (λ (r : Process). r.serving) (ap (λ j. process_at (set qs p q) j) same ∙ serving-own qs p q lt) ∙ e))
       | inr ne ↦
-          ap (λ xs. filter (is_served_by i) served ++ xs) (other ne)
-          ∙ append-nil (filter (is_served_by i) served)
+          one-more-other served p i (served_call call) ne
           ∙ h
           ∙ ap (map served_call) (sym (serving-other qs p i q ne))
     ]
-  where
-    one : (b : Bool) → b ≡ true → cond b (served_call call ∷ []) [] ≡ served_call call ∷ []
-    one true h = refl
-    one false h = cc
-
-    none : (b : Bool) → b ≡ false → cond b (served_call call ∷ []) [] ≡ []
-    none true h = cc
-    none false h = refl
-
-    same-number : (n : ℕ) → nat_eq n n ≡ true
-    same-number n = search rules
-
-    own : (j : ℕ) → j ≡ p → filter (is_served_by j) (served_call call ∷ []) ≡ served_call call ∷ []
-    own j same = one (nat_eq call.target.0 j) (ap (λ k. nat_eq k j) (here ∙ sym same) ∙ same-number j)
-
-    other : i ≢ p → filter (is_served_by i) (served_call call ∷ []) ≡ []
-    other ne = none (nat_eq call.target.0 i) (false-from (nat_eq call.target.0 i) (λ k. ne (sym (eqb-true call.target.0 i k) ∙ here)))
 
 module _ {P : Type 0} (m : Meaning) (located : P → ℕ → List ℤ → List Grant → Type 0) where
   -- whether the last event was a Time does not matter
@@ -157,7 +140,7 @@ module _ {P : Type 0} (m : Meaning) (located : P → ℕ → List ℤ → List G
             (Seated-at located s.processes x.seats p within k.seated));
         few = rw length-set k.few;
         pending = ap (filter (λ other. not (nat_eq other.number.0 call.number.0))) k.pending;
-        served = λ j. served-more j p call x.served s.processes new here (rw (Seated-length located s.processes x.seats k.seated) within) refl (k.served j);
+        served = λ j. served-more j p call x.served s.processes new (rw (Seated-length located s.processes x.seats k.seated) within) refl (k.served j);
         drawn = k.drawn;
         input = k.input;
         moment = k.moment;

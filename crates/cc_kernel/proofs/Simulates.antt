@@ -11,9 +11,11 @@ use Rattle.cc_base.specs.declared.request.Grant.{Grant}
 use Rattle.cc_base.specs.declared.request.Grant.TheVariants.{Go, Made, Gone, Byte}
 use Rattle.cc_kernel.proofs.Outs.{gone_seats-append, length-gone}
 use Rattle.cc_kernel.proofs.Seated.{Seated-gone, Seated-left, Seated-length, Seated-push, Seated-ready, Seated-waiting}
-use Rattle.cc_kernel.proofs.Serving.{AllUntimed-filter, AllUntimed-push, Rising-filter, Rising-push, none-left, others-stay}
+use Rattle.cc_kernel.proofs.Serving.{AllUntimed-filter, AllUntimed-push, Rising-filter, Rising-push}
+use Rattle.cc_kernel.proofs.Stacks.{none-served-other, none-served-own}
+use Rattle.cc_kernel.specs.Stacks.{none_served}
 use Rattle.cc_kernel.specs.Store.{IsLocated, IsPlain, IsState, Contents, called_contents, got_byte, left_contents, made_contents, sent_contents, waited, went_on}
-use Rattle.cc_kernel.specs.Seats.{gone_seats, is_served_by, served_call, with_left, with_ready}
+use Rattle.cc_kernel.specs.Seats.{gone_seats, served_call, with_left, with_ready}
 use Rattle.cc_kernel.specs.declared.seat.Seat.{Seat}
 use Rattle.cc_base.specs.Limits.{most_processes}
 use Rattle.cc_rules.specs.Effects.{answered, called, caller_of, each_gets_gone, ended, first_byte, grant_to, granted, is_for, rest_of, waits_for, with_standing}
@@ -225,7 +227,7 @@ module _ {P : Type 0} (located : P → ℕ → List ℤ → List Grant → Type 
             (Seated-left located s.processes x.seats p standing k.seated w));
         few =
             rw (
-              length-gone (gone_seats (set x.seats p (with_left standing)) (map served_call (filter (is_for p) x.pending))) (filter (is_served_by p) x.served),
+              length-gone (gone_seats (set x.seats p (with_left standing)) (map served_call (filter (is_for p) x.pending))) (x.served p),
               length-gone (set x.seats p (with_left standing)) (map served_call (filter (is_for p) x.pending)),
               length-set,
             )
@@ -244,14 +246,14 @@ module _ {P : Type 0} (located : P → ℕ → List ℤ → List Grant → Type 
           → IsState located s x
           → p < length x.seats
           → q.serving ≡ []
-          → filter (is_served_by i) (filter (λ call. not (is_served_by p call)) x.served) ≡ map served_call (process_at (set s.processes p q) i).serving
+          → none_served x.served p i ≡ map served_call (process_at (set s.processes p q) i).serving
       left-served s x p q i k lt h =
           elim (same-or-not i p) [
             | inl same ↦
-                ap (λ j. filter (is_served_by j) (filter (λ call. not (is_served_by p call)) x.served)) same
-                ∙ none-left p x.served
+                ap (none_served x.served p) same
+                ∙ none-served-own x.served p
                 ∙ sym (ap (map served_call) (ap (λ (r : Process). r.serving) (ap (λ j. process_at (set s.processes p q) j) same ∙ serving-own s.processes p q (rw (Seated-length located s.processes x.seats k.seated) lt)) ∙ h))
-            | inr ne ↦ others-stay i p x.served ne ∙ k.served i ∙ ap (map served_call) (sym (serving-other s.processes p i q ne))
+            | inr ne ↦ none-served-other x.served p i ne ∙ k.served i ∙ ap (map served_call) (sym (serving-other s.processes p i q ne))
           ]
 
   -- it made another

@@ -1,10 +1,10 @@
 -- When a kernel is one: its journal is a settled run whose last state is kept, and what is made for the next step is there.
-use Rattle.std.specs.Prelude.{◌≡◌, ℕ, ◌≤◌, ◌<◌, ℤ, false, List, [], All}
-use Rattle.cc_base.specs.Grants.{value_cells}
+use Rattle.std.specs.Prelude.{◌≡◌, ℕ, ◌≤◌, ◌<◌, ℤ, false, List, []}
 use Rattle.cc_base.specs.Meaning.{Meaning}
 use Rattle.cc_base.specs.declared.request.Grant.{Grant}
 use Rattle.cc_kernel.specs.Contract.{Prepared, Nothing, Step, Making, Answering, Moment}
 use Rattle.cc_kernel.specs.Resting.{AllRest}
+use Rattle.cc_kernel.specs.Stacks.{AreWithin, served_by}
 use Rattle.cc_kernel.specs.Store.{IsState, contents}
 use Rattle.cc_kernel.specs.declared.need.Need.{Need}
 use Rattle.cc_kernel.specs.declared.need.Need.TheVariants as need
@@ -37,7 +37,7 @@ IsReadyFor m located store events need.Nothing = Unit {0}
 IsReadyFor m located store events need.Step = HasRoom store events
 IsReadyFor m located store events (need.Making kind args process) = HasRoom store events × located process kind args []
 IsReadyFor m located store events (need.Answering value zeros) =
-    HasRoom store events × All (λ call. value_cells m call.trans ≤ zeros) store.served.items
+    HasRoom store events × AreWithin m zeros (served_by store.served)
 IsReadyFor m located store events need.Moment = HasRoom store events
 
 -- the journal is a settled run of at most the allowed turns, its last state is kept, and in it no process can take anything
@@ -50,6 +50,8 @@ pub record IsKept {P : Type 0} (m : Meaning) (located : P → ℕ → List ℤ �
   pub spent_turns : spent ≡ turns events
   pub within : spent ≤ allowed
   pub low : store.drawn ≤ spent
+  -- the value of each call that is served has no more cells than is kept
+  pub cells : AreWithin m store.most (served_by store.served)
   pub ready : IsReadyFor m located store room need
   -- the list of faults has room for every process
   pub unlisted : faults.items ≡ []

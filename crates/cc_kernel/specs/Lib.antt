@@ -4,6 +4,8 @@ pub mod Contract
 pub mod Lists
 -- the seats of the processes, and the calls that they serve
 pub mod Seats
+-- the calls that each process serves, as a stack
+pub mod Stacks
 -- what the seats keep beside them: counts, and who is ready
 pub mod Counted
 -- what is kept of a state, and when it is the state that the machine is in

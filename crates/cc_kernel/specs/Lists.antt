@@ -9,9 +9,10 @@ pub record CallList : Type 0 where
   pub items : List TransactionCall
   pub spare : ℕ
 
--- served calls, and for how many more there is room
-pub record ServedList : Type 0 where
-  pub items : List ServedCall
+-- served calls, each by its process and how many calls are around it; how many a process serves; and for how many more there is room
+pub record ServedCalls : Type 0 where
+  pub calls : List ((ℕ × ℕ) × ServedCall)
+  pub depths : List (ℕ × ℕ)
   pub spare : ℕ
 
 -- seats, and for how many more there is room

@@ -1,6 +1,5 @@
 -- The seats of the processes, and the calls that they serve, as lists.
-use Rattle.std.specs.Prelude.{◌≡◌, ℕ, ◌+◌, Bool, true, false, List, [], ◌∷◌, ◌++◌, count_by, get_or, set, nat_eq, if◌then◌else◌}
-use Rattle.std.specs.List.{filter}
+use Rattle.std.specs.Prelude.{ℕ, ◌+◌, Bool, true, false, List, [], ◌∷◌, ◌++◌, count_by, get_or, set, if◌then◌else◌}
 use Rattle.std.specs.Option.{option_map_or}
 use Rattle.cc_base.specs.declared.names.FaultKind.{FaultKind}
 use Rattle.cc_base.specs.declared.names.Pid.{Pid}
@@ -17,28 +16,13 @@ use Rattle.cc_rules.specs.declared.process.ProcessStanding.TheVariants.{Running,
 use Rattle.cc_rules.specs.declared.process.TransactionCall.{TransactionCall}
 use Rattle.cc_rules.specs.declared.process.Waiting.TheVariants.{Nobody}
 
--- the call without its arguments
+-- the call without its target and its arguments
 abbrev pub served_call : TransactionCall → ServedCall
-served_call call = record { number = call.number; target = call.target; trans = call.trans; waiting = call.waiting }
-
-abbrev pub is_served_by : ℕ → ServedCall → Bool
-is_served_by p call = nat_eq call.target.0 p
+served_call call = record { number = call.number; trans = call.trans; waiting = call.waiting }
 
 -- what stands for a call where there is none
 abbrev pub no_call : TransactionCall
 no_call = record { number = record { 0 = 0 }; target = record { 0 = 0 }; trans = 0; args = []; waiting = Nobody }
-
-abbrev pub no_served : ServedCall
-no_served = record { number = record { 0 = 0 }; target = record { 0 = 0 }; trans = 0; waiting = Nobody }
-
--- the call is the last of this server in the first list, and the second is what is left
-pub record SplitsAt (server : ℕ) (call : ServedCall) (old new : List ServedCall) : Type 0 where
-  pub before : List ServedCall
-  pub behind : List ServedCall
-  pub whole : old ≡ before ++ call ∷ behind
-  pub rest : new ≡ before ++ behind
-  pub own : is_served_by server call ≡ true
-  pub last : filter (is_served_by server) behind ≡ []
 
 -- it waits for an alternative
 abbrev pub is_at_select : ProcessStanding → Bool

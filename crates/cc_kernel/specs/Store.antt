@@ -7,7 +7,8 @@ use Rattle.cc_base.specs.declared.request.Grant.{Grant}
 use Rattle.cc_base.specs.declared.request.Grant.TheVariants.{Go, Made, Took, Chose, Byte}
 use Rattle.cc_kernel.specs.Choice.{after_end, seat_waits}
 use Rattle.cc_kernel.specs.Untimed.{NoDelays}
-use Rattle.cc_kernel.specs.Seats.{gone_seats, is_served_by, seat_at, served_call, with_left, with_ready, with_waiting, woken}
+use Rattle.cc_kernel.specs.Seats.{gone_seats, seat_at, served_call, with_left, with_ready, with_waiting, woken}
+use Rattle.cc_kernel.specs.Stacks.{none_served, one_more, served_by}
 use Rattle.cc_kernel.specs.declared.store.Store.{Store}
 use Rattle.cc_kernel.specs.declared.seat.Whereabouts.{Whereabouts}
 use Rattle.cc_kernel.specs.declared.seat.Whereabouts.TheVariants.{Ready, Out, Waits, Left}
@@ -26,8 +27,8 @@ use Rattle.cc_rules.specs.declared.process.Waiting.TheVariants.{Nobody, Caller, 
 pub record Contents (P : Type 0) : Type 0 where
   pub seats : List (Seat P)
   pub pending : List TransactionCall
-  -- in the order accepted
-  pub served : List ServedCall
+  -- by the process that serves them, in the order accepted
+  pub served : ℕ → List ServedCall
   pub drawn : ℕ
   -- the whole input, and how much of it was taken
   pub input : List ℕ
@@ -40,7 +41,7 @@ module _ {P : Type 0} where
       record {
         seats = store.seats.items;
         pending = store.pending.items;
-        served = store.served.items;
+        served = served_by store.served;
         drawn = store.drawn;
         input = store.input;
         taken = store.taken;
@@ -82,9 +83,9 @@ module _ {P : Type 0} where
         seats =
             gone_seats
             (gone_seats (set x.seats p (with_left standing)) (map served_call (filter (is_for p) x.pending)))
-            (filter (is_served_by p) x.served);
+            (x.served p);
         pending = filter (λ call. not (is_for p call)) x.pending;
-        served = filter (λ call. not (is_served_by p call)) x.served;
+        served = none_served x.served p;
       }
 
   -- p made a process
@@ -112,7 +113,7 @@ module _ {P : Type 0} where
       record x {
         seats = map (after_end m x.seats x.pending) (enumerate_from 0 x.seats);
         pending = [];
-        served = filter (λ call. not (seat_waits m x.seats x.pending call.target.0)) x.served;
+        served = λ i. if seat_waits m x.seats x.pending i then [] else x.served i;
       }
 
   -- p serves this call, which was pending: it took it by its alternative i
@@ -121,7 +122,7 @@ module _ {P : Type 0} where
       record x {
         seats = set x.seats p (woken (seat_at x.seats p) (Took i call.args));
         pending = filter (λ other. not (nat_eq other.number.0 call.number.0)) x.pending;
-        served = x.served ++ served_call call ∷ [];
+        served = one_more x.served p (served_call call);
       }
 
 -- a process that stands so waits for no deadline
@@ -185,7 +186,7 @@ pub record IsState {P : Type 0} (located : P → ℕ → List ℤ → List Grant
   pub seated : Seated located s.processes x.seats
   pub few : length x.seats ≤ most_processes
   pub pending : x.pending ≡ s.pending
-  pub served : (i : ℕ) → filter (is_served_by i) x.served ≡ map served_call (process_at s.processes i).serving
+  pub served : (i : ℕ) → x.served i ≡ map served_call (process_at s.processes i).serving
   pub drawn : x.drawn ≡ s.drawn
   pub input : drop x.taken x.input ≡ s.input
   pub moment : x.moment ≡ s.moment

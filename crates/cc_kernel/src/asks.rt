@@ -7,13 +7,14 @@ ghost use Rattle.cc_base.specs.declared.names.FaultKind.TheVariants.{TooMany};
 ghost use Rattle.cc_base.specs.declared.request.Grant.TheVariants.{Go, Gone};
 ghost use Rattle.cc_kernel.specs.Store.{called_contents, got_byte, left_contents, made_contents, contents, sent_contents, waited, went_on};
 ghost use Rattle.cc_kernel.specs.Seats.{answered_seats, gone_seats, is_ready, seat_at, served_call};
+ghost use Rattle.cc_kernel.specs.Stacks.{none_served, served_by};
 ghost use Rattle.cc_base.specs.Limits.{most_processes};
 ghost use Rattle.cc_rules.specs.State.{is_over};
 ghost use Rattle.cc_rules.specs.declared.process.ProcessStanding.TheVariants.{AtSelect, Faulted};
 
 use crate::pending::Pending;
 use crate::seats::Seats;
-use crate::served::served_call;
+use crate::served::{Served, served_call};
 use crate::store::Store;
 use cc_base::limits::MOST_PROCESSES;
 use cc_base::{Alts, Behave, CallId, Cells, FaultKind, Grant, Pid};
@@ -25,6 +26,7 @@ pub(crate) fn go_on<P: Drop>(store: &mut Store<P>, pid: Pid, process: P, grant: 
     requires idle { is_ready (seat_at store.old.seats.items pid.0) ≡ false }
     ensures contents { contents store.new ≡ went_on (contents store.old) pid.0 process grant }
     ensures room { store.old.served.spare ≤ store.new.served.spare }
+    ensures most { store.new.most ≡ store.old.most }
 {
     store.seats.put_ready(pid.0 as usize, process, grant);
 }
@@ -35,6 +37,7 @@ pub(crate) fn select<P: Drop>(store: &mut Store<P>, pid: Pid, process: P, alts: 
     requires idle { is_ready (seat_at store.old.seats.items pid.0) ≡ false }
     ensures contents { contents store.new ≡ waited (contents store.old) pid.0 process (AtSelect alts store.old.moment) }
     ensures room { store.old.served.spare ≤ store.new.served.spare }
+    ensures most { store.new.most ≡ store.old.most }
 {
     let standing = ProcessStanding::AtSelect {
         alts,
@@ -49,6 +52,7 @@ pub(crate) fn get<P: Drop>(store: &mut Store<P>, pid: Pid, process: P)
     requires idle { is_ready (seat_at store.old.seats.items pid.0) ≡ false }
     ensures contents { contents store.new ≡ got_byte (contents store.old) pid.0 process }
     ensures room { store.old.served.spare ≤ store.new.served.spare }
+    ensures most { store.new.most ≡ store.old.most }
 {
     let byte = store.input.get(store.taken);
     store
@@ -75,6 +79,7 @@ pub(crate) fn call<P: Drop>(
     requires last { All (λ call. call.number.0 < store.old.drawn) store.old.pending.items }
     ensures contents { contents store.new ≡ (if is_over (seat_at store.old.seats.items target.0).standing then went_on (contents store.old) pid.0 process Gone else called_contents (contents store.old) pid process target trans args) }
     ensures room { store.old.served.spare ≤ store.new.served.spare }
+    ensures most { store.new.most ≡ store.old.most }
 {
     if !store.seats.is_there(target) {
         store.seats.put_ready(pid.0 as usize, process, Grant::Gone);
@@ -112,6 +117,7 @@ pub(crate) fn send<P: Drop>(
     requires last { All (λ call. call.number.0 < store.old.drawn) store.old.pending.items }
     ensures contents { contents store.new ≡ (if is_over (seat_at store.old.seats.items target.0).standing then went_on (contents store.old) pid.0 process Go else sent_contents (contents store.old) pid process target trans args) }
     ensures room { store.old.served.spare ≤ store.new.served.spare }
+    ensures most { store.new.most ≡ store.old.most }
 {
     let is_there = store.seats.is_there(target);
     store.seats.put_ready(pid.0 as usize, process, Grant::Go);
@@ -135,11 +141,11 @@ pub(crate) fn leave<P: Drop>(store: &mut Store<P>, pid: Pid, standing: ProcessSt
     requires over { is_over standing ≡ true }
     ensures contents { contents store.new ≡ left_contents (contents store.old) pid.0 standing }
     ensures room { store.old.served.spare ≤ store.new.served.spare }
+    ensures most { store.new.most ≡ store.old.most }
 {
     store.seats.put_left(pid.0 as usize, standing);
     drop_calls(&mut store.seats, &mut store.pending, pid);
-    store.seats.gone_served(pid, store.served.as_slice());
-    store.served.drop_all(pid);
+    drop_served(&mut store.seats, &mut store.served, pid);
 }
 
 // Every call that is pending at the target is dropped, and its caller, where one waits, goes on with Gone.
@@ -164,6 +170,17 @@ fn drop_call<P: Drop>(seats: &mut Seats<P>, pending: &mut Pending, number: CallI
     seats.answer(served_call(&call), Grant::Gone);
 }
 
+// Every call that the process serves is dropped, and its caller, where one waits, goes on with Gone.
+fn drop_served<P: Drop>(seats: &mut Seats<P>, served: &mut Served, server: Pid)
+    ensures seats { seats.new.items ≡ gone_seats seats.old.items (served_by served.old server.0) }
+    ensures served { served_by served.new ≡ none_served (served_by served.old) server.0 }
+    ensures room { served.old.spare ≤ served.new.spare }
+{
+    while let Some(call) = served.take_innermost(server) {
+        seats.answer(call, Grant::Gone);
+    }
+}
+
 /// The process has made another, where there are not too many.
 pub(crate) fn create<P: Drop>(store: &mut Store<P>, pid: Pid, process: P, new: P)
     requires within { pid.0 < length store.old.seats.items }
@@ -171,6 +188,7 @@ pub(crate) fn create<P: Drop>(store: &mut Store<P>, pid: Pid, process: P, new: P
     requires room { 0 < store.old.seats.spare }
     ensures contents { contents store.new ≡ (if nat_lt (length store.old.seats.items) most_processes then made_contents (contents store.old) pid.0 process new else left_contents (contents store.old) pid.0 (Faulted TooMany)) }
     ensures room { store.old.served.spare ≤ store.new.served.spare }
+    ensures most { store.new.most ≡ store.old.most }
 {
     let count = store.seats.len();
     if count >= MOST_PROCESSES as usize {

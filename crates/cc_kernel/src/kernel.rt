@@ -1,4 +1,4 @@
-ghost use Rattle.std.specs.Prelude.{◌≡◌, ◌≢◌, ℕ, ◌≤◌, ◌++◌, ◌⊎◌, [], ◌∷◌, false, true, IfOk, IfNone, IfSome, OnErr, OnOk, Some, set, slice_get};
+ghost use Rattle.std.specs.Prelude.{◌≡◌, ◌≢◌, ℕ, ◌≤◌, ◌++◌, ◌⊎◌, [], ◌∷◌, false, true, IfOk, IfNone, IfSome, OnErr, OnOk, Some, nat_lt, set, slice_get};
 ghost use Rattle.cc_kernel.specs.Untimed.{HasNoDeadline};
 ghost use Rattle.cc_kernel.specs.Contract.{AllOut, AsksNow, IsOutWith, IsPreparedFor, IsReadyWith, Moment, Nothing, OthersStay, OutsRun, SameOuts, SomeRunning, StepsOn, is_out_in};
 ghost use Rattle.cc_rules.specs.Standing.{IsOver, standing_of};
@@ -80,6 +80,7 @@ impl<B: Behave> Kernel<B> {
                 input,
                 taken: 0,
                 moment: 0,
+                most: 0,
             },
             need: Need::Nothing,
             faults,
@@ -96,7 +97,7 @@ impl<B: Behave> Kernel<B> {
         ensures rest { self.new ≡ record self.old { prepared = self.new.prepared } }
         ensures err { OnErr result (self.new ≡ self.old) }
     {
-        let need = need_of(&self.code, self.alloc, self.store.served.as_slice(), next)?;
+        let need = need_of(&self.code, self.alloc, self.store.most, next)?;
         make_room(&mut self.store, &mut self.journal)?;
         self.need = need;
         Ok(())
@@ -168,11 +169,15 @@ impl<B: Behave> Kernel<B> {
         Some((Pid(at as u32), process, grant))
     }
 
-    /// How the run stands. It is never idle, since no request that it performs has a deadline.
+    /// How the run stands, which is a settled one of at most the allowed turns. It is never idle, since no request that it
+    /// performs has a deadline.
     pub fn state(&self) -> Standing
         ensures standing { result ≡ standing_of (B.means self.now.code) self.now.input self.now.journal self.now.turns }
         ensures going { result ≡ Going → SomeRunning (B.means self.now.code) self.now.input self.now.journal }
         ensures never_idle { (until : ℕ) → result ≢ Idle until }
+        ensures within { turns self.now.journal ≤ self.now.turns }
+        ensures runs { IsRun (B.means self.now.code) self.now.input self.now.journal }
+        ensures settled { IsSettledRun (B.means self.now.code) self.now.input self.now.journal }
     {
         if self.store.seats.all_over() {
             return Standing::Ended {
@@ -186,6 +191,13 @@ impl<B: Behave> Kernel<B> {
             return Standing::Spent;
         }
         Standing::Going
+    }
+
+    /// Whether a turn is left.
+    pub fn has_turn(&self) -> bool
+        ensures left { result ≡ nat_lt (turns self.now.journal) self.now.turns }
+    {
+        self.spent < self.turns
     }
 
     /// The events so far: a settled run of at most the allowed turns, in which each process that is out is running.

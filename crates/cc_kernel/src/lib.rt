@@ -2,12 +2,13 @@
 //!
 //! What a kernel is to its callers stands in `specs/Contract`, and speaks of nothing inside.
 //!
-//! What is kept (`Store`) is a seat for each process by number, the pending calls in the order asked, and the calls that are
-//! being served in the order accepted. A seat says how its process stands and its whereabouts: ready with its next grant, out,
+//! What is kept (`Store`) is a seat for each process by number, the pending calls in the order asked, and of each process the
+//! calls that it serves, in the order accepted. A seat says how its process stands and its whereabouts: ready with its next grant, out,
 //! waiting, or gone. Beside the seats stand how many processes run, are over, were stopped by a fault or have `terminate` among
 //! their alternatives, and the numbers of those that are ready, in the order in which they became so (`AreKept` in
 //! `specs/Counted`): a count changes where a standing does. The pending calls stand in the queues of cc_queue, and who waits for
-//! each in a map beside them (`specs/Asked`). The state of the machine isn't stored. It is the run of the journal, and the
+//! each in a map beside them (`specs/Asked`). The calls that a process serves are a stack: each stands in a map by its process and by
+//! how many calls are around it, and a second map tells how many each process serves (`specs/Stacks`). The state of the machine isn't stored. It is the run of the journal, and the
 //! kernel's invariant says that what is kept is that state (`IsState` in `specs/Store`, `IsKept` in `specs/Invariant`).
 //!
 //! A step has three parts: what the process asks is performed (`perform`), the journal says so, and the machine settles
@@ -27,12 +28,14 @@
 //! nothing expires and no call is withdrawn.
 //!
 //! All memory of a step is taken before it (`prepare`), so that no step is ever half done: room for three events, for one more
-//! pending call, one more served call and one more seat, the process that a Create makes, and the value of a Reply with enough
-//! zeros at its end.
+//! pending call, one more served call and one more seat, the process that a Create makes, and the value of a Reply with as many
+//! zeros at its end as the value of any call has cells that a process took so far (`most` in `Store`): the call that will be
+//! answered is one of these.
 //!
-//! `pick` and `state` take constant time, and the process that has been ready for longest is picked. A step takes the time to
-//! compare the pending calls of the transactions that the process accepts at its `select`, or to drop the calls of a process that
-//! is over; a Reply, and a process that is over, walk the served calls; the End, which comes once, walks the seats.
+//! `pick` and `state` take constant time, and the process that has been ready for longest is picked. `prepare` takes the time to
+//! copy what a Create or a Reply has. A step takes the time to compare the pending calls of the transactions that the process
+//! accepts at its `select`, or to drop the calls of a process that is over, those that wait for it and those that it serves. The
+//! End, which comes once, walks the seats.
 #![tactic(auto)]
 
 mod asks;

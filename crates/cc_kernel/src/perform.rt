@@ -6,7 +6,7 @@ ghost use Rattle.cc_kernel.specs.Resting.{AllRest, RestBut, roused_by};
 ghost use Rattle.cc_kernel.specs.Store.{IsLocated, IsState, contents};
 ghost use Rattle.cc_kernel.specs.Seats.{is_out, is_ready, seat_at};
 ghost use Rattle.cc_kernel.specs.declared.need.Need.TheVariants as variant;
-ghost use Rattle.cc_base.specs.Grants.{value_cells};
+ghost use Rattle.cc_kernel.specs.Stacks.{AreKnown, AreWithin, served_by};
 ghost use Rattle.cc_rules.specs.Effects.{effect, replied};
 ghost use Rattle.cc_rules.specs.Runs.{bytes_of};
 ghost use Rattle.cc_rules.specs.State.{State};
@@ -29,12 +29,13 @@ fn reply<B: Behave>(
 )
     requires within { pid.0 < length store.old.seats.items }
     requires idle { is_ready (seat_at store.old.seats.items pid.0) ≡ false }
-    requires known { All (λ call. call.trans < length (B.means code.now).shapes) store.old.served.items }
-    ensures state { (s : State) (asked : List ℤ) (zeros : ℕ) → value ≡ asked ++ replicate zeros (pos 0) → All (λ call. value_cells (B.means code.now) call.trans ≤ zeros) store.old.served.items → IsState (B.at code.now) s (contents store.old) → IsLocated (B.at code.now) s pid.0 process → IsState (B.at code.now) (replied (B.means code.now) s pid.0 asked) (contents store.new) }
+    requires known { AreKnown (B.means code.now) (served_by store.old.served) }
+    ensures state { (s : State) (asked : List ℤ) (zeros : ℕ) → value ≡ asked ++ replicate zeros (pos 0) → AreWithin (B.means code.now) zeros (served_by store.old.served) → IsState (B.at code.now) s (contents store.old) → IsLocated (B.at code.now) s pid.0 process → IsState (B.at code.now) (replied (B.means code.now) s pid.0 asked) (contents store.new) }
     ensures input { store.new.input ≡ store.old.input }
     ensures drawn { store.new.drawn ≡ store.old.drawn }
     ensures outs { map is_out store.new.seats.items ≡ set (map is_out store.old.seats.items) pid.0 false }
     ensures room { store.old.served.spare ≤ store.new.served.spare }
+    ensures cells { AreWithin (B.means code.now) store.old.most (served_by store.old.served) → AreWithin (B.means code.now) store.new.most (served_by store.new.served) }
     ensures rest { AllRest (B.means code.now) (contents store.old) → AllRest (B.means code.now) (contents store.new) }
 {
     store.seats.put_ready(pid.0 as usize, process, Grant::Go);
@@ -63,12 +64,13 @@ fn change_store<B: Behave>(
     requires no_deadline { HasNoDeadline request }
     requires enough { IsEnoughFor (prepared_for need) request }
     requires ready { (events : ℕ) × IsReadyFor (B.means code.now) (B.at code.now) store.old events need }
-    requires known { All (λ call. call.trans < length (B.means code.now).shapes) store.old.served.items }
+    requires known { AreKnown (B.means code.now) (served_by store.old.served) }
     ensures state { (s : State) → IsState (B.at code.now) s (contents store.old) → IsLocated (B.at code.now) s pid.0 process → IsState (B.at code.now) (effect (B.means code.now) s pid request) (contents store.new) }
     ensures input { store.new.input ≡ store.old.input }
     ensures drawn { store.new.drawn ≤ store.old.drawn + 1 }
     ensures outs { SameOuts (map is_out store.new.seats.items) (set (map is_out store.old.seats.items) pid.0 false) }
     ensures room { store.old.served.spare ≤ store.new.served.spare }
+    ensures cells { AreWithin (B.means code.now) store.old.most (served_by store.old.served) → AreWithin (B.means code.now) store.new.most (served_by store.new.served) }
     ensures rest { AllRest (B.means code.now) (contents store.old) → RestBut (B.means code.now) (contents store.new) (roused_by pid request) }
 {
     match request {
@@ -126,12 +128,13 @@ pub(crate) fn perform<B: Behave>(
     requires no_deadline { HasNoDeadline request }
     requires enough { IsEnoughFor (prepared_for need) request }
     requires ready { (events : ℕ) × IsReadyFor (B.means code.now) (B.at code.now) store.old events need }
-    requires known { All (λ call. call.trans < length (B.means code.now).shapes) store.old.served.items }
+    requires known { AreKnown (B.means code.now) (served_by store.old.served) }
     ensures state { (s : State) → IsState (B.at code.now) s (contents store.old) → IsLocated (B.at code.now) s pid.0 process → IsState (B.at code.now) (effect (B.means code.now) s pid request) (contents store.new) }
     ensures input { store.new.input ≡ store.old.input }
     ensures drawn { store.new.drawn ≤ store.old.drawn + 1 }
     ensures outs { SameOuts (map is_out store.new.seats.items) (set (map is_out store.old.seats.items) pid.0 false) }
     ensures room { store.old.served.spare ≤ store.new.served.spare }
+    ensures cells { AreWithin (B.means code.now) store.old.most (served_by store.old.served) → AreWithin (B.means code.now) store.new.most (served_by store.new.served) }
     ensures rest { AllRest (B.means code.now) (contents store.old) → RestBut (B.means code.now) (contents store.new) (roused_by pid request) }
     ensures bytes { result ≡ bytes_of request }
 {

@@ -2,7 +2,7 @@ ghost use Rattle.std.specs.Prelude.{◌≡◌, [], ◌∷◌, ◌++◌, ◌+◌,
 ghost use Rattle.std.specs.List.{enumerate_from, filter, list_all, list_any};
 ghost use Rattle.cc_rules.specs.Effects.{waits_for};
 ghost use Rattle.cc_rules.specs.State.{is_faulted, is_over, is_running};
-ghost use Rattle.cc_kernel.specs.Seats.{answered_seats, gone_seats, is_ready, is_served_by, seat_at, with_left, with_out, with_ready, with_waiting, woken};
+ghost use Rattle.cc_kernel.specs.Seats.{answered_seats, is_ready, seat_at, with_left, with_out, with_ready, with_waiting, woken};
 ghost use Rattle.cc_base.specs.Limits.{most_processes};
 ghost use Rattle.std.specs.VecDeque.{deque_capacity};
 ghost use Rattle.cc_kernel.specs.Counted.{Agrees, IsWaiting, all_may_end, ended_seat, may_terminate};
@@ -230,17 +230,6 @@ impl<P: Drop> Seats<P> {
         }
     }
 
-    /// The caller of each call that the process served, where one waits, goes on with Gone.
-    pub(crate) fn gone_served(&mut self, server: Pid, calls: &[ServedCall])
-        ensures { self.new.items ≡ gone_seats self.old.items (filter (is_served_by server.0) calls.now) }
-    {
-        for call in calls {
-            if call.target.0 == server.0 {
-                self.answer(*call, Grant::Gone);
-            }
-        }
-    }
-
     /// Whether the process was made, and neither has ended nor was stopped.
     pub(crate) fn is_there(&self, pid: Pid) -> bool
         ensures { result ≡ not (is_over (seat_at self.now.items pid.0).standing) }
@@ -259,6 +248,16 @@ impl<P: Drop> Seats<P> {
             None => false,
             Some(standing) => may_terminate(standing),
         }
+    }
+
+    /// The process of this number, where it has `terminate` among its alternatives.
+    pub(crate) fn terminating(&self, at: usize) -> Option<Pid>
+        ensures { MatchOption result (may_terminate (seat_at self.now.items at).standing ≡ false) (λ pid. (pid.0 ≡ at) × (may_terminate (seat_at self.now.items at).standing ≡ true)) }
+    {
+        if at < self.items.len() && self.may_terminate(at) {
+            return Some(Pid(at as u32));
+        }
+        None
     }
 
     /// Whether each process is over or has `terminate` among its alternatives, and one has.

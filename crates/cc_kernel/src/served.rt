@@ -1,134 +1,207 @@
-ghost use Rattle.std.specs.Prelude.{◌≡◌, [], ◌∷◌, ◌++◌, ◌+◌, ◌-◌, ◌<◌, ◌≤◌, length, get_or, not, vec_capacity, vec_len, OnOk, OnErr, MatchOption, ℕ, false, true};
-ghost use Rattle.std.specs.List.{filter};
+ghost use Rattle.std.specs.Prelude.{◌≡◌, [], ◌+◌, ◌<◌, ◌≤◌, OnErr, OnOk, IfOk, MatchOption, None, Some, true, false, ℕ, if◌then◌else◌, nat_eq};
+ghost use Rattle.std.specs.HashMap.{get, spare};
+ghost use Rattle.std.specs.Option.{option_map};
 ghost use Rattle.cc_kernel.specs.Counted.{may_terminate};
-ghost use Rattle.cc_kernel.specs.Seats.{is_served_by, no_served, seat_at, served_call, SplitsAt};
+ghost use Rattle.cc_kernel.specs.Seats.{seat_at, served_call};
+ghost use Rattle.cc_kernel.specs.Stacks.{IsInnermost, depth_of, is_place, none_served, one_more, served_by};
 
 use crate::seats::Seats;
 use cc_base::{CallId, Memory, Pid};
 use cc_rules::{TransactionCall, Waiting};
 use std::alloc::Global;
+use std::collections::HashMap;
 use std::marker::Model;
 
-/// A call without its arguments: what has to be known of it to answer it.
+/// A call without its target and its arguments: what has to be known of it to answer it.
 #[derive(Clone, Copy, Debug, Drop, PartialEq, Eq)]
 pub struct ServedCall {
     pub number: CallId,
-    pub target: Pid,
     pub trans: u32,
     pub waiting: Waiting,
 }
 
-/// The call without its arguments.
+/// The call without its target and its arguments.
 pub(crate) fn served_call(call: &TransactionCall) -> ServedCall
     ensures { result ≡ served_call call.now }
 {
     ServedCall {
         number: call.number,
-        target: call.target,
         trans: call.trans,
         waiting: call.waiting,
     }
 }
 
-/// The calls that are being served in the order accepted, with room for more.
+/// The calls that each process serves, as a stack in the order accepted, with room for more.
 #[derive(Drop)]
 pub struct Served {
-    items: Vec<ServedCall>,
+    // each call, by the process that serves it and how many calls it serves around that one
+    calls: HashMap<(u32, u32), ServedCall>,
+    // how many calls a process serves, where it has served one
+    depths: HashMap<u32, u32>,
+    // no process has served more calls at once
+    deepest: u32,
+    spare: u32,
 }
 
 impl Model for Served {
-    ghost use Rattle.std.specs.Prelude.{◌-◌, vec_len, vec_capacity};
-    ghost use Rattle.cc_kernel.specs.Lists.{ServedList};
+    ghost use Rattle.std.specs.Prelude.{nat_eq};
+    ghost use Rattle.std.specs.HashMap.{get, spare as left_in};
+    ghost use Rattle.cc_kernel.specs.Lists.{ServedCalls};
+    ghost use Rattle.cc_kernel.specs.Stacks.{AreStacked, is_place};
 
-    ghost Value = { ServedList };
+    ghost Value = { ServedCalls };
 
-    ghost view = { λ c. record { items = c.items.items; spare = vec_capacity c.items - vec_len c.items } };
+    ghost view = { λ c. record { calls = c.calls.entries; depths = c.depths.entries; spare = c.spare } };
+
+    ghost invariant = { λ c. AreStacked (get is_place c.calls) (get nat_eq c.depths) c.deepest c.spare (left_in c.calls) (left_in c.depths) };
 }
 
 impl Served {
     pub(crate) fn new(alloc: Global) -> Served
-        ensures { result.items ≡ [] }
+        ensures { served_by result ≡ (λ p. []) }
     {
         Served {
-            items: Vec::new(alloc),
+            calls: HashMap::new(alloc),
+            depths: HashMap::new(alloc),
+            deepest: 0,
+            spare: 0,
         }
     }
 
-    /// Makes room for at least this many more. After an error nothing has changed.
-    pub(crate) fn reserve(&mut self, more: usize) -> Result<(), Memory>
-        ensures items { self.new.items ≡ self.old.items }
-        ensures ok { OnOk result (more ≤ self.new.spare) }
-        ensures err { OnErr result (self.new ≡ self.old) }
+    /// Makes room for one more. After an error nothing has changed.
+    pub(crate) fn reserve_one(&mut self) -> Result<(), Memory>
+        ensures by { served_by self.new ≡ served_by self.old }
+        ensures ok { OnOk result (0 < self.new.spare) }
+        ensures spare { self.old.spare ≤ self.new.spare }
     {
-        self.items.reserve(more)?;
+        if self.spare > 0 {
+            return Ok(());
+        }
+        if self.deepest == u32::MAX {
+            return Err(Memory);
+        }
+        make_room(&mut self.calls, &mut self.depths)?;
+        self.spare = 1;
         Ok(())
     }
 
-    /// Puts the call at the end, in the room that was made before, of which it uses at most one.
-    pub(crate) fn add(&mut self, call: ServedCall)
+    /// The process serves this call within the others that it serves. This takes one place of the room that was made before.
+    pub(crate) fn add(&mut self, server: Pid, call: ServedCall)
         requires { 0 < self.old.spare }
-        ensures items { self.new.items ≡ self.old.items ++ call ∷ [] }
-        ensures spare { self.old.spare ≤ self.new.spare + 1 }
+        ensures by { served_by self.new ≡ one_more (served_by self.old) server.0 call }
     {
-        self.items.push_reserved(call);
-    }
-
-    pub(crate) fn as_slice(&self) -> &[ServedCall]
-        ensures { result.now ≡ self.now.items }
-    {
-        self.items.as_slice()
+        let depth = depth_at(&self.depths, server.0);
+        put_call(&mut self.calls, server.0, depth, call);
+        put_depth(&mut self.depths, server.0, depth + 1);
+        self.deepest = self.deepest.max(depth + 1);
+        self.spare -= 1;
     }
 
     /// Takes out the innermost call that the process serves, which is the one accepted last.
     pub(crate) fn take_innermost(&mut self, server: Pid) -> Option<ServedCall>
         ensures spare { self.old.spare ≤ self.new.spare }
-        ensures call { MatchOption result ((self.new.items ≡ self.old.items) × (filter (is_served_by server.0) self.old.items ≡ [])) (λ call. SplitsAt server.0 call self.old.items self.new.items) }
+        ensures call { MatchOption result ((self.new ≡ self.old) × (served_by self.old server.0 ≡ [])) (λ call. IsInnermost server.0 call (served_by self.old) (served_by self.new)) }
     {
-        let Some(at) = self.innermost(server) else {
+        let depth = depth_at(&self.depths, server.0);
+        if depth == 0 {
             return None;
-        };
-        Some(self.items.remove(at))
-    }
-
-    // Where the innermost call of the process stands.
-    fn innermost(&self, server: Pid) -> Option<usize>
-        ensures { MatchOption result ((k : ℕ) → k < length self.now.items → is_served_by server.0 (get_or self.now.items k no_served) ≡ false) (λ at. (at < length self.now.items) × (is_served_by server.0 (get_or self.now.items at no_served) ≡ true) × ((k : ℕ) → at < k → k < length self.now.items → is_served_by server.0 (get_or self.now.items k no_served) ≡ false)) }
-    {
-        for at in (0..self.items.len()).rev() {
-            if self.items[at].target.0 == server.0 {
-                return Some(at);
-            }
         }
-        None
+        let Some(call) = take_call(&mut self.calls, server.0, depth - 1) else {
+            unreachable!()
+        };
+        set_depth(&mut self.depths, server.0, depth - 1);
+        Some(call)
     }
 
-    /// Removes every call that the process serves.
+    /// The process serves no call any more.
     pub(crate) fn drop_all(&mut self, server: Pid)
-        ensures items { self.new.items ≡ filter (λ call. not (is_served_by server.0 call)) self.old.items }
+        ensures by { served_by self.new ≡ none_served (served_by self.old) server.0 }
         ensures spare { self.old.spare ≤ self.new.spare }
     {
-        keep_unserved(&mut self.items, server);
+        while let Some(_call) = self.take_innermost(server) {}
     }
-}
 
-impl Served {
-    /// Removes every call that is served by a process which has `terminate` among its alternatives.
+    /// No process that has `terminate` among its alternatives serves a call any more.
     pub(crate) fn drop_terminating<P: Drop>(&mut self, seats: &Seats<P>)
-        ensures { self.new.items ≡ filter (λ call. not (may_terminate (seat_at seats.now.items call.target.0).standing)) self.old.items }
+        ensures { served_by self.new ≡ (λ p. if may_terminate (seat_at seats.now.items p).standing then [] else served_by self.old p) }
     {
-        keep_others(&mut self.items, seats);
+        for at in 0..seats.len() {
+            self.drop_where_terminating(seats, at);
+        }
+    }
+
+    // The process serves no call any more, where it has `terminate` among its alternatives.
+    fn drop_where_terminating<P: Drop>(&mut self, seats: &Seats<P>, at: usize)
+        ensures { served_by self.new ≡ (if may_terminate (seat_at seats.now.items at).standing then none_served (served_by self.old) at else served_by self.old) }
+    {
+        if let Some(pid) = seats.terminating(at) {
+            self.drop_all(pid);
+        }
     }
 }
 
-fn keep_others<P: Drop>(items: &mut Vec<ServedCall>, seats: &Seats<P>)
-    ensures { items.new.items ≡ filter (λ call. not (may_terminate (seat_at seats.now.items call.target.0).standing)) items.old.items }
+// Makes room for one more in each. Nothing else changes, also after an error.
+fn make_room(
+    calls: &mut HashMap<(u32, u32), ServedCall>,
+    depths: &mut HashMap<u32, u32>,
+) -> Result<(), Memory>
+    ensures calls { (q : ℕ × ℕ) → get is_place calls.new q ≡ get is_place calls.old q }
+    ensures depths { (p : ℕ) → get nat_eq depths.new p ≡ get nat_eq depths.old p }
+    ensures more { (spare calls.old ≤ spare calls.new) × (spare depths.old ≤ spare depths.new) }
+    ensures ok { OnOk result ((1 ≤ spare calls.new) × (1 ≤ spare depths.new)) }
 {
-    items.retain(|call| !seats.may_terminate(call.target.0 as usize));
+    calls.reserve(1)?;
+    depths.reserve(1)?;
+    Ok(())
 }
 
-fn keep_unserved(items: &mut Vec<ServedCall>, server: Pid)
-    ensures items { items.new.items ≡ filter (λ call. not (is_served_by server.0 call)) items.old.items }
-    ensures room { vec_capacity items.old - vec_len items.old ≤ vec_capacity items.new - vec_len items.new }
+// How many calls the process serves.
+fn depth_at(depths: &HashMap<u32, u32>, server: u32) -> u32
+    ensures { result ≡ depth_of (get nat_eq depths.now server) }
 {
-    items.retain(|call| call.target.0 != server.0);
+    match depths.get(&server) {
+        Some(depth) => *depth,
+        None => 0,
+    }
+}
+
+// The process serves so many calls from now on.
+fn put_depth(depths: &mut HashMap<u32, u32>, server: u32, depth: u32)
+    requires { 0 < spare depths.old }
+    ensures at { (p : ℕ) → get nat_eq depths.new p ≡ (if nat_eq server p then Some depth else get nat_eq depths.old p) }
+    ensures spare { spare depths.old ≤ spare depths.new + 1 }
+{
+    let _ = depths.insert(server, depth);
+}
+
+// The process serves so many calls from now on, where it has served one before.
+fn set_depth(depths: &mut HashMap<u32, u32>, server: u32, depth: u32)
+    ensures at { (p : ℕ) → get nat_eq depths.new p ≡ (if nat_eq server p then option_map (λ d. depth) (get nat_eq depths.old p) else get nat_eq depths.old p) }
+    ensures spare { spare depths.old ≤ spare depths.new }
+{
+    if let Some(here) = depths.get_mut(&server) {
+        *here = depth;
+    }
+}
+
+// The process serves this call, and so many around it.
+fn put_call(calls: &mut HashMap<(u32, u32), ServedCall>, server: u32, around: u32, call: ServedCall)
+    requires { 0 < spare calls.old }
+    ensures at { (q : ℕ × ℕ) → get is_place calls.new q ≡ (if is_place (server, around) q then Some call else get is_place calls.old q) }
+    ensures spare { spare calls.old ≤ spare calls.new + 1 }
+{
+    let _ = calls.insert((server, around), call);
+}
+
+// Takes out the call that the process serves with so many around it.
+fn take_call(
+    calls: &mut HashMap<(u32, u32), ServedCall>,
+    server: u32,
+    around: u32,
+) -> Option<ServedCall>
+    ensures call { result ≡ get is_place calls.old (server, around) }
+    ensures at { (q : ℕ × ℕ) → get is_place calls.new q ≡ (if is_place (server, around) q then None else get is_place calls.old q) }
+    ensures spare { spare calls.old ≤ spare calls.new }
+{
+    calls.remove(&(server, around))
 }

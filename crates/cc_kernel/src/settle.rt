@@ -1,9 +1,10 @@
 //! The machine settles: whoever was roused takes a call, or an immediate alternative where no call is eligible, and the collective
 //! end comes where it is due.
-ghost use Rattle.std.specs.Prelude.{◌≡◌, ◌<◌, ◌≤◌, IfNone, IfSome, MatchOption, Some, length, map};
+ghost use Rattle.std.specs.Prelude.{◌≡◌, ◌<◌, ◌≤◌, IfNone, IfSome, MatchOption, Some, All, length, map};
 ghost use Rattle.cc_kernel.specs.Counted.{IsWaiting};
 ghost use Rattle.cc_kernel.specs.Resting.{AllRest, RestBut, RestsAt};
 ghost use Rattle.cc_kernel.specs.Seats.{is_out, seat_at};
+ghost use Rattle.cc_kernel.specs.Stacks.{AreWithin, served_by};
 ghost use Rattle.cc_kernel.specs.Settles.{GoesOn, Settles, TakesOne};
 ghost use Rattle.cc_kernel.specs.Store.{IsState, accepted_contents, chose_contents, contents, ended_contents};
 ghost use Rattle.cc_rules.specs.Choice.{call_numbered};
@@ -19,14 +20,16 @@ use cc_rules::{Event, Journal};
 use std::alloc::Global;
 
 // The process takes the pending call of this number by its alternative.
-fn accept<P: Drop>(store: &mut Store<P>, pid: Pid, alt: u32, number: CallId)
+fn accept<B: Behave>(code: &B, store: &mut Store<B::Proc>, pid: Pid, alt: u32, number: CallId)
     requires call { (call : TransactionCall) × (call_numbered store.old.pending.items number.0 ≡ Some call) }
     requires within { pid.0 < length store.old.seats.items }
     requires waits { IsWaiting (seat_at store.old.seats.items pid.0).standing }
     requires room { 0 < store.old.served.spare }
+    requires known { All (λ call. call.trans < length (B.means code.now).shapes) store.old.pending.items }
     ensures contents { (call : TransactionCall) → call_numbered store.old.pending.items number.0 ≡ Some call → contents store.new ≡ accepted_contents (contents store.old) pid.0 alt call }
     ensures input { store.new.input ≡ store.old.input }
     ensures drawn { store.new.drawn ≡ store.old.drawn }
+    ensures cells { AreWithin (B.means code.now) store.old.most (served_by store.old.served) → AreWithin (B.means code.now) store.new.most (served_by store.new.served) }
 {
     let Some(call) = store.pending.take(number) else {
         unreachable!()
@@ -34,7 +37,8 @@ fn accept<P: Drop>(store: &mut Store<P>, pid: Pid, alt: u32, number: CallId)
     let served = served_call(&call);
     let args = call.args;
     store.seats.wake(pid.0 as usize, Grant::Took { alt, args });
-    store.served.add(served);
+    store.served.add(pid, served);
+    store.most = store.most.max(code.shape(served.trans).value as usize);
 }
 
 // The process takes its immediate alternative.
@@ -42,6 +46,7 @@ fn choose<P: Drop>(store: &mut Store<P>, pid: Pid, alt: u32)
     requires within { pid.0 < length store.old.seats.items }
     requires waits { IsWaiting (seat_at store.old.seats.items pid.0).standing }
     ensures contents { contents store.new ≡ chose_contents (contents store.old) pid.0 alt }
+    ensures most { store.new.most ≡ store.old.most }
 {
     store.seats.wake(pid.0 as usize, Grant::Chose { alt });
 }
@@ -49,6 +54,7 @@ fn choose<P: Drop>(store: &mut Store<P>, pid: Pid, alt: u32)
 // The process takes a call, or an immediate alternative where no call is eligible; none exactly where it can take nothing.
 fn take_one<B: Behave>(code: &B, store: &mut Store<B::Proc>, pid: Pid) -> Option<Event>
     requires room { 0 < store.old.served.spare }
+    requires known { All (λ call. call.trans < length (B.means code.now).shapes) store.old.pending.items }
     ensures none { IfNone result (RestsAt (B.means code.now) (contents store.old) pid.0) }
     ensures same { IfNone result (store.new ≡ store.old) }
     ensures takes { IfSome result (λ e. (s : State) → IsState (B.at code.now) s (contents store.old) → TakesOne (B.means code.now) (B.at code.now) s e (contents store.new)) }
@@ -56,11 +62,12 @@ fn take_one<B: Behave>(code: &B, store: &mut Store<B::Proc>, pid: Pid) -> Option
     ensures outs { map is_out store.new.seats.items ≡ map is_out store.old.seats.items }
     ensures input { store.new.input ≡ store.old.input }
     ensures drawn { store.new.drawn ≡ store.old.drawn }
+    ensures cells { AreWithin (B.means code.now) store.old.most (served_by store.old.served) → AreWithin (B.means code.now) store.new.most (served_by store.new.served) }
 {
     match what_it_takes(code, &store.seats, &store.pending, pid) {
         None => None,
         Some(Taking::Call { alt, number }) => {
-            accept(store, pid, alt, number);
+            accept(code, store, pid, alt, number);
             Some(Event::Accept {
                 pid,
                 alt,
@@ -83,6 +90,7 @@ fn take_roused<B: Behave>(
 )
     requires events { 2 ≤ journal.old.spare }
     requires room { 0 < store.old.served.spare }
+    requires known { All (λ call. call.trans < length (B.means code.now).shapes) store.old.pending.items }
     requires rest { RestBut (B.means code.now) (contents store.old) roused }
     ensures goes_on { (s : State) → IsState (B.at code.now) s (contents store.old) → GoesOn (B.means code.now) (B.at code.now) s journal.old.items journal.new.items (contents store.new) }
     ensures rest { AllRest (B.means code.now) (contents store.new) }
@@ -90,6 +98,7 @@ fn take_roused<B: Behave>(
     ensures outs { map is_out store.new.seats.items ≡ map is_out store.old.seats.items }
     ensures input { store.new.input ≡ store.old.input }
     ensures drawn { store.new.drawn ≡ store.old.drawn }
+    ensures cells { AreWithin (B.means code.now) store.old.most (served_by store.old.served) → AreWithin (B.means code.now) store.new.most (served_by store.new.served) }
 {
     let Some(pid) = roused else {
         return;
@@ -104,6 +113,7 @@ fn take_roused<B: Behave>(
 fn end_all<B: Behave>(code: &B, alloc: Global, store: &mut Store<B::Proc>)
     requires rest { AllRest (B.means code.now) (contents store.old) }
     ensures contents { contents store.new ≡ ended_contents (B.means code.now) (contents store.old) }
+    ensures most { store.new.most ≡ store.old.most }
 {
     store.served.drop_terminating(&store.seats);
     store.seats.end_terminating();
@@ -120,12 +130,14 @@ pub(crate) fn settle<B: Behave>(
 )
     requires events { 2 ≤ journal.old.spare }
     requires room { 0 < store.old.served.spare }
+    requires known { All (λ call. call.trans < length (B.means code.now).shapes) store.old.pending.items }
     requires rest { RestBut (B.means code.now) (contents store.old) roused }
     ensures settles { (s : State) → IsState (B.at code.now) s (contents store.old) → Settles (B.means code.now) (B.at code.now) s journal.old.items journal.new.items (contents store.new) }
     ensures rest { AllRest (B.means code.now) (contents store.new) }
     ensures outs { (s : State) → IsState (B.at code.now) s (contents store.old) → map is_out store.new.seats.items ≡ map is_out store.old.seats.items }
     ensures input { store.new.input ≡ store.old.input }
     ensures drawn { store.new.drawn ≡ store.old.drawn }
+    ensures cells { AreWithin (B.means code.now) store.old.most (served_by store.old.served) → AreWithin (B.means code.now) store.new.most (served_by store.new.served) }
 {
     take_roused(code, store, journal, roused);
     if store.seats.all_may_end() {

@@ -17,4 +17,6 @@ pub struct Store<P> {
     pub taken: usize,
     /// The moment, in milliseconds.
     pub moment: u64,
+    /// The most cells that the value of a call has which a process took so far.
+    pub most: usize,
 }

@@ -3,14 +3,16 @@ use Rattle.std.specs.Prelude.{slice_get}
 use Rattle.std.proofs.lemmas.List.{map-set}
 use Rattle.cc_base.specs.declared.names.FaultKind.TheVariants.{TooMany}
 use Rattle.cc_base.specs.declared.request.Grant.TheVariants.{Go, Byte}
-use Rattle.cc_kernel.proofs.Requests.{answer-made, outs-left, start-made, state-asks-call, state-asks-create, state-asks-select, state-asks-send, outs-call, outs-create, outs-send, same-outs}
+use Rattle.cc_kernel.proofs.Requests.{answer-made, cells-call, cells-create, cells-left, cells-send, outs-left, start-made, state-asks-call, state-asks-create, state-asks-select, state-asks-send, outs-call, outs-create, outs-send, same-outs}
 use Rattle.cc_kernel.proofs.Simulates.{state-get, state-go, state-leave}
 use Rattle.cc_kernel.proofs.Resting.{rest-call, rest-create, rest-left, rest-ready, rest-select, rest-send}
 use Rattle.cc_kernel.specs.Resting.{AllRest, RestBut}
 use Rattle.cc_kernel.specs.Store.{Contents, contents}
 use Rattle.cc_kernel.specs.Contract.{is_out_in}
+use Rattle.cc_kernel.proofs.Stacks.{within-same}
 use Rattle.cc_kernel.specs.Seats.{is_out, with_ready, with_waiting}
 use Rattle.cc_rules.specs.declared.process.ProcessStanding.TheVariants.{AtSelect, Ended, Faulted}
+use Rattle.cc_kernel.specs.Stacks.{served_by}
 use Rattle.cc_kernel.proofs.perform.change_store.Goals as goal
 
 pub returns-in-Print-clause-state : goal.returns-in-Print-clause-state
@@ -171,3 +173,66 @@ returns-in-Fault-clause-rest g c all =
     let x = contents c.args.store.now in
     let F : Contents g.row.B-Proc.Denot → Type 0 = λ y. AllRest m y in
     rw c.in-Fault.is (subst F (sym c.leave-in-Fault.ensures.contents) (rest-left m x c.args.pid.0 (Faulted c.in-Fault.kind) refl all))
+
+pub returns-in-Print-clause-cells : goal.returns-in-Print-clause-cells
+returns-in-Print-clause-cells g c h =
+    let m = g.B.Behave.means c.args.code.now in
+    let old = c.args.store.now in
+    let new = c.go_on.new.store in
+    within-same m old.most new.most (served_by old.served) (served_by new.served) c.go_on.ensures.most (ap (λ y. y.served) c.go_on.ensures.contents) h
+
+pub returns-in-Pause-clause-cells : goal.returns-in-Pause-clause-cells
+returns-in-Pause-clause-cells g c h =
+    let m = g.B.Behave.means c.args.code.now in
+    let old = c.args.store.now in
+    let new = c.go_on-in-Pause.new.store in
+    within-same m old.most new.most (served_by old.served) (served_by new.served) c.go_on-in-Pause.ensures.most (ap (λ y. y.served) c.go_on-in-Pause.ensures.contents) h
+
+pub returns-in-Select-clause-cells : goal.returns-in-Select-clause-cells
+returns-in-Select-clause-cells g c h =
+    let m = g.B.Behave.means c.args.code.now in
+    let old = c.args.store.now in
+    let new = c.select.new.store in
+    within-same m old.most new.most (served_by old.served) (served_by new.served) c.select.ensures.most (ap (λ y. y.served) c.select.ensures.contents) h
+
+pub returns-in-Get-clause-cells : goal.returns-in-Get-clause-cells
+returns-in-Get-clause-cells g c h =
+    let m = g.B.Behave.means c.args.code.now in
+    let old = c.args.store.now in
+    let new = c.get.new.store in
+    within-same m old.most new.most (served_by old.served) (served_by new.served) c.get.ensures.most (ap (λ y. y.served) c.get.ensures.contents) h
+
+pub returns-in-Some-clause-cells : goal.returns-in-Some-clause-cells
+returns-in-Some-clause-cells g c h =
+    let m = g.B.Behave.means c.args.code.now in
+    let old = c.args.store.now in
+    let new = c.create.new.store in
+    cells-create m (contents old) old.most new.most (served_by new.served) c.args.pid.0 c.args.process c.in-Some.new (Faulted TooMany) _ c.create.ensures.most (ap (λ y. y.served) c.create.ensures.contents) h
+
+pub returns-in-Call-clause-cells : goal.returns-in-Call-clause-cells
+returns-in-Call-clause-cells g c h =
+    let m = g.B.Behave.means c.args.code.now in
+    let old = c.args.store.now in
+    let new = c.call.new.store in
+    cells-call m (contents old) old.most new.most (served_by new.served) c.args.pid c.args.process c.in-Call.target c.in-Call.trans c.in-Call.args _ c.call.ensures.most (ap (λ y. y.served) c.call.ensures.contents) h
+
+pub returns-in-Send-clause-cells : goal.returns-in-Send-clause-cells
+returns-in-Send-clause-cells g c h =
+    let m = g.B.Behave.means c.args.code.now in
+    let old = c.args.store.now in
+    let new = c.send.new.store in
+    cells-send m (contents old) old.most new.most (served_by new.served) c.args.pid c.args.process c.in-Send.target c.in-Send.trans c.in-Send.args _ c.send.ensures.most (ap (λ y. y.served) c.send.ensures.contents) h
+
+pub returns-in-Done-clause-cells : goal.returns-in-Done-clause-cells
+returns-in-Done-clause-cells g c h =
+    let m = g.B.Behave.means c.args.code.now in
+    let old = c.args.store.now in
+    let new = c.leave.new.store in
+    cells-left m (contents old) old.most new.most (served_by new.served) c.args.pid.0 Ended c.leave.ensures.most (ap (λ y. y.served) c.leave.ensures.contents) h
+
+pub returns-in-Fault-clause-cells : goal.returns-in-Fault-clause-cells
+returns-in-Fault-clause-cells g c h =
+    let m = g.B.Behave.means c.args.code.now in
+    let old = c.args.store.now in
+    let new = c.leave-in-Fault.new.store in
+    cells-left m (contents old) old.most new.most (served_by new.served) c.args.pid.0 (Faulted c.in-Fault.kind) c.leave-in-Fault.ensures.most (ap (λ y. y.served) c.leave-in-Fault.ensures.contents) h

@@ -6,7 +6,9 @@ use Rattle.cc_kernel.proofs.Simulates.{state-go}
 use Rattle.cc_kernel.proofs.Resting.{rest-ready}
 use Rattle.cc_kernel.specs.Resting.{AllRest}
 use Rattle.cc_kernel.specs.Store.{Contents, contents}
+use Rattle.cc_kernel.proofs.Stacks.{within-same}
 use Rattle.cc_kernel.specs.Seats.{is_out, with_ready}
+use Rattle.cc_kernel.specs.Stacks.{served_by}
 use Rattle.cc_kernel.proofs.perform.perform.Goals as goal
 
 pub returns-in-Print-clause-state : goal.returns-in-Print-clause-state
@@ -24,3 +26,10 @@ returns-in-Print-clause-rest g c all =
     let x = contents c.args.store.now in
     let F : Contents g.row.B-Proc.Denot → Type 0 = λ y. AllRest m y in
     rw c.in-Print.is (subst F (sym c.go_on.ensures.contents) (rest-ready m x.seats x.pending c.args.pid.0 c.args.process Go all))
+
+pub returns-in-Print-clause-cells : goal.returns-in-Print-clause-cells
+returns-in-Print-clause-cells g c h =
+    let m = g.B.Behave.means c.args.code.now in
+    let old = c.args.store.now in
+    let new = c.go_on.new.store in
+    within-same m old.most new.most (served_by old.served) (served_by new.served) c.go_on.ensures.most (ap (λ y. y.served) c.go_on.ensures.contents) h

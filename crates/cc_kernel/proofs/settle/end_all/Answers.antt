@@ -3,11 +3,8 @@ use Rattle.cc_kernel.proofs.Resting.{ends-rests, served-rests}
 use Rattle.cc_kernel.specs.Store.{contents}
 use Rattle.cc_kernel.proofs.settle.end_all.Goals as goal
 
-pub returns : goal.returns
-returns g c =
+pub returns-clause-contents : goal.returns-clause-contents
+returns-clause-contents g c =
     let m = g.B.Behave.means c.args.code.now in
     let x = contents c.args.store.now in
-    record {
-      contents =
-          rw (c.end_terminating.ensures, c.drop_terminating.ensures, c.new.ensures, ends-rests m x c.requires.rest, served-rests m x c.requires.rest) refl;
-    }
+    rw (c.end_terminating.ensures, c.drop_terminating.ensures, c.new.ensures, ends-rests m x c.requires.rest, served-rests m x c.requires.rest) refl

@@ -1,10 +1,13 @@
 use Rattle.std.proofs.Common.{ap, sym, subst, ◌∙◌, map}
 use Rattle.cc_kernel.proofs.Ending.{outs-ended, settles-calm, settles-ended}
 use Rattle.cc_kernel.proofs.Resting.{due-rests, rest-calm, rest-ended}
+use Rattle.cc_kernel.proofs.Stacks.{within-where}
+use Rattle.cc_kernel.specs.Choice.{seat_waits}
 use Rattle.cc_kernel.specs.Seats.{is_out}
 use Rattle.cc_kernel.specs.Resting.{AllRest}
 use Rattle.cc_kernel.specs.Store.{Contents, contents}
 use Rattle.cc_rules.specs.Runs.{after}
+use Rattle.cc_kernel.specs.Stacks.{served_by}
 use Rattle.cc_kernel.proofs.settle.settle.Goals as goal
 
 pub returns-then-all_may_end-clause-settles : goal.returns-then-all_may_end-clause-settles
@@ -40,3 +43,11 @@ returns-else-all_may_end-clause-settles g c = λ s k.
     (c.take_roused.ensures.goes_on s k)
     (λ s' k'. rest-calm m located s' x k' c.take_roused.ensures.rest)
     due
+
+pub returns-then-all_may_end-clause-cells : goal.returns-then-all_may_end-clause-cells
+returns-then-all_may_end-clause-cells g c h =
+    let m = g.B.Behave.means c.args.code.now in
+    let mid = c.take_roused.new.store in
+    let x = contents mid in
+    within-where m mid.most c.end_all.new.store.most (served_by mid.served) (served_by c.end_all.new.store.served) (seat_waits m x.seats x.pending)
+    c.end_all.ensures.most (ap (λ y. y.served) c.end_all.ensures.contents) (c.take_roused.ensures.cells h)

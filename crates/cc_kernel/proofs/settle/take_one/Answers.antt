@@ -4,10 +4,12 @@ use Rattle.cc_base.specs.declared.request.Grant.TheVariants.{Chose, Took}
 use Rattle.cc_kernel.proofs.Outs.{outs-woken}
 use Rattle.cc_kernel.proofs.Resting.{rest-accepted, rest-chose}
 use Rattle.cc_kernel.proofs.Settling.{accepts-one, chooses-one, goes-waiting, takes-waiting, waits-within}
+use Rattle.cc_kernel.proofs.Stacks.{within-same}
 use Rattle.cc_kernel.specs.Seats.{is_out, seat_at}
 use Rattle.cc_kernel.specs.Resting.{AllRest}
 use Rattle.cc_kernel.specs.Store.{Contents, contents}
 use Rattle.cc_rules.specs.Choice.{is_chosen}
+use Rattle.cc_kernel.specs.Stacks.{served_by}
 use Rattle.cc_kernel.proofs.settle.take_one.Goals as goal
 
 pub accept-requires-clause-waits : goal.accept-requires-clause-waits
@@ -85,3 +87,10 @@ pub returns-in-Some-AtOnce-clause-outs : goal.returns-in-Some-AtOnce-clause-outs
 returns-in-Some-AtOnce-clause-outs g c =
     let x = contents c.args.store.now in
     ap (λ y. map is_out y.seats) c.choose.ensures.contents ∙ outs-woken x.seats c.args.pid.0 (Chose c.in-Some-AtOnce.alt)
+
+pub returns-in-Some-AtOnce-clause-cells : goal.returns-in-Some-AtOnce-clause-cells
+returns-in-Some-AtOnce-clause-cells g c h =
+    let m = g.B.Behave.means c.args.code.now in
+    let old = c.args.store.now in
+    let new = c.choose.new.store in
+    within-same m old.most new.most (served_by old.served) (served_by new.served) c.choose.ensures.most (ap (λ y. y.served) c.choose.ensures.contents) h

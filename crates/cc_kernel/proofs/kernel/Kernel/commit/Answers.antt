@@ -1,6 +1,6 @@
-use Rattle.std.proofs.Common.{arith, ℕ, ◌<◌, List, length, subst, ap, ◌∙◌}
-use Rattle.cc_kernel.proofs.Keeping.{all-served, kept-commit}
-use Rattle.cc_kernel.proofs.Known.{known-served}
+use Rattle.std.proofs.Common.{arith, ℕ, ◌<◌, List, length, subst, sym, ap, ◌∙◌}
+use Rattle.cc_kernel.proofs.Keeping.{all-served, kept-commit, legal-now}
+use Rattle.cc_kernel.proofs.Known.{known-pending, known-served}
 use Rattle.cc_kernel.proofs.Others.{others-stay, outs-run, prints-more, steps-on}
 use Rattle.cc_kernel.proofs.Outs.{out-at, out-not-ready}
 use Rattle.cc_kernel.proofs.Seated.{Seated-at, out-running}
@@ -10,7 +10,11 @@ use Rattle.cc_kernel.specs.Store.{contents}
 use Rattle.cc_kernel.proofs.Readying.{has-room}
 use Rattle.cc_kernel.specs.Contract.{is_out_in}
 use Rattle.cc_kernel.specs.Seats.{seat_at}
+use Rattle.cc_base.specs.declared.request.Request.{Request}
 use Rattle.cc_rules.specs.Effects.{effect}
+use Rattle.cc_rules.specs.Events.{word_of}
+use Rattle.cc_rules.specs.declared.process.TransactionCall.{TransactionCall}
+use Rattle.std.specs.List.{All}
 use Rattle.cc_rules.specs.Runs.{IsRun, state_after, turns}
 use Rattle.cc_rules.specs.State.{process_at}
 use Rattle.cc_kernel.proofs.kernel.Kernel.commit.Goals as goal
@@ -59,6 +63,27 @@ settle-requires-clause-room g c =
     let r = room.1 in
     omega (arith, p, r)
 
+pub settle-requires-clause-known : goal.settle-requires-clause-known
+settle-requires-clause-known g c =
+    let k = c.self.inside in
+    let m = g.B.Behave.means k.code.value in
+    let s = state_after m k.store.input k.journal.items in
+    let inv = c.self.invariant in
+    let out = rw (← c.self.view_is) at c.requires.out in
+    let asks = rw (← c.self.view_is) at c.requires.asks in
+    let there = out-at k.store.seats.items c.args.pid.0 out.0 in
+    let running =
+    out-running (g.B.Behave.at k.code.value) (process_at s.processes c.args.pid.0) (seat_at k.store.seats.items c.args.pid.0)
+    (Seated-at (g.B.Behave.at k.code.value) s.processes k.store.seats.items c.args.pid.0 there.0 inv.state.seated)
+    there.1 in
+    let served = rw c.deref.ensures at c.perform-bytes.ensures.state in
+    let asked = served s inv.state out.1 in
+    let F : Request → Type 0 = λ r. All (λ (call : TransactionCall). call.trans < length m.shapes) (effect m s c.args.pid r).pending in
+    let known =
+    known-pending m (g.met.B.Behave.well_formed k.code.value) k.store.input k.journal.items inv.runs c.args.pid (word_of c.args.request)
+    (legal-now m s c.args.pid c.args.request running asks) in
+    rw (c.deref-2.ensures, asked.pending) (subst F (sym asks) known)
+
 -- none but whom it rouses can take anything
 pub settle-requires-clause-rest : goal.settle-requires-clause-rest
 settle-requires-clause-rest g c =
@@ -106,6 +131,7 @@ invariant_of-self g c =
     (c.settle.ensures.input ∙ c.perform-bytes.ensures.input)
     (served (state_after (g.B.Behave.means k.code.value) k.store.input k.journal.items) inv.state out.1)
     (rw c.deref-2.ensures at c.settle.ensures.rest)
+    ((rw c.deref-2.ensures at c.settle.ensures.cells) ((rw c.deref.ensures at c.perform-bytes.ensures.cells) inv.cells))
     settles)
 
 pub returns-clause-runs : goal.returns-clause-runs

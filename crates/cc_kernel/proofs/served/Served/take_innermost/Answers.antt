@@ -1,13 +1,16 @@
-use Rattle.std.proofs.Common.{refl}
-use Rattle.cc_kernel.proofs.Serving.{none-served, split-at}
+use Rattle.std.proofs.Common.{◌≡◌, ◌+◌, ◌-◌, arith, nat_eq, sym}
+use Rattle.std.specs.HashMap.{get}
+use Rattle.cc_kernel.proofs.Stacks.{stacks-taken}
+use Rattle.cc_kernel.specs.Stacks.{depth_of, is_place}
 use Rattle.cc_kernel.proofs.served.Served.take_innermost.Goals as goal
-
-pub returns-in_default-clause-call : goal.returns-in_default-clause-call
-returns-in_default-clause-call c = (refl, none-served c.args.server.0 c.args.self.now.items c.in_default.ensures)
 
 pub returns-clause-call : goal.returns-clause-call
 returns-clause-call c =
-    let e = rw (← c.self.view_is) at c.in-Some.ensures in
+    let k = c.self.inside in
+    let depth = c.depth_at-depth.result in
+    let some = c.if-depth-eq0.false in
+    let is = c.depth_at-depth.ensures in
+    let here : depth - 1 + 1 ≡ depth_of (get nat_eq k.depths c.args.server.0) = omega (arith, some, is) in
     rw (← c.self.view_is)
-    (split-at c.args.server.0 c.in-Some.at c.remove.result c.self.inside.items.items c.remove.new.self.items
-    e.0 c.remove.ensures.value c.remove.ensures.items e.1 e.2)
+    (stacks-taken (get is_place k.calls) (get is_place c.take_call.new.calls) (get nat_eq k.depths) (get nat_eq c.set_depth.new.depths)
+    c.args.server.0 (depth - 1) c.in-Some.call here (sym c.in-Some.ensures.call) c.take_call.ensures.at c.set_depth.ensures.at)
