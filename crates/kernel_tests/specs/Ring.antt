@@ -1,6 +1,6 @@
 -- A ring of processes, each of a kind of its own. The first makes the others. Each waits for a call of the one before it, answers it,
 -- calls the next and waits for the answer, again and again; the first begins with its call.
-use Rattle.std.specs.Prelude.{ℕ, zero, suc, ◌+◌, ◌-◌, ℤ, pos, nat_eq, nat_lt, if◌then◌else◌, List, [], ◌∷◌, length, replicate, Option, Some, None}
+use Rattle.std.specs.Prelude.{ℕ, zero, suc, ◌+◌, ◌-◌, ℤ, pos, false, nat_eq, nat_lt, if◌then◌else◌, [], ◌∷◌, length, replicate, Option, Some, None}
 use Rattle.cc_base.specs.Meaning.{Meaning}
 use Rattle.cc_base.specs.declared.alternatives.Alt.TheVariants.{Accept}
 use Rattle.cc_base.specs.declared.names.Shape.{Shape}

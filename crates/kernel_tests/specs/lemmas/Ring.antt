@@ -1,14 +1,14 @@
 -- A ring is well formed, and asks nothing with a deadline.
-use Rattle.std.proofs.Common.{◌≡◌, ◌≢◌, ℕ, zero, suc, ◌+◌, ◌-◌, ◌≤◌, ◌<◌, ℤ, Bool, true, false, List, [], ◌∷◌, length, refl, subst, cond, Some, None, replicate, nat_lt, arith, ◌∙◌, ap, sym}
+use Rattle.std.proofs.Common.{◌≡◌, ◌≢◌, ℕ, zero, suc, ◌+◌, ◌-◌, ◌≤◌, ◌<◌, Bool, true, false, List, [], ◌∷◌, length, refl, subst, Some, None, replicate, nat_lt, arith}
 use Rattle.std.proofs.Math.Nat.{not-suc-le-zero, zero-lt-suc}
 use Rattle.std.specs.Prelude.{All, slice_get, if◌then◌else◌}
+use Rattle.std.proofs.lemmas.Bool.{ltb-true}
 use Rattle.std.proofs.lemmas.List.Elements.{All-cons, All-nil}
 use Rattle.std.proofs.lemmas.List.Kept.{AllPairs-cons}
 use Rattle.cc_base.specs.Alternatives.{NumbersRise}
 use Rattle.cc_base.specs.Requests.{HasSites, IsAlternativeOf, IsAtSite, IsRequestOf, NamesSites, WellFormed}
 use Rattle.cc_base.specs.declared.alternatives.Alt.{Alt}
 use Rattle.cc_base.specs.declared.alternatives.Alt.TheVariants.{Accept}
-use Rattle.cc_base.specs.declared.request.Grant.{Grant}
 use Rattle.cc_base.specs.declared.request.Request.TheVariants.{Create}
 use Rattle.cc_kernel.specs.Untimed.{AsksNoDeadline, HasNoDeadline}
 use Rattle.kernel_tests.specs.Ring.{asked_at, asked_in, rank_at, ring, stage_after}
@@ -17,22 +17,13 @@ use Rattle.kernel_tests.specs.declared.ring.Phase.TheVariants as phase
 use Rattle.kernel_tests.specs.declared.ring.Stage.{Stage}
 
 -- each of so many kinds is without arguments
-kind-there : (n k : ℕ) → k < n → slice_get (replicate n 0) k ≡ Some 0
+kind-there : (n k : ℕ) → k < n → slice_get {X = ℕ} (replicate n 0) k ≡ Some 0
 kind-there zero k lt = absurd (not-suc-le-zero lt)
 kind-there (suc n) zero lt = refl
-kind-there (suc n) (suc k) lt = kind-there n k (below n k lt)
-  where
-    below : (n k : ℕ) → suc k < suc n → k < n
-    below n k lt = lt
-
-less : (a b : ℕ) → nat_lt a b ≡ true → a < b
-less zero zero h = cc
-less zero (suc b) h = zero-lt-suc b
-less (suc a) zero h = cc
-less (suc a) (suc b) h = less a b h
+kind-there (suc n) (suc k) lt = kind-there n k (omega (arith, lt))
 
 one-more : (a b : ℕ) → a < b → a + 1 < b + 1
-one-more a b lt = lt
+one-more a b lt = omega (arith, lt)
 
 abbrev one-alternative : List (ℕ × Alt)
 one-alternative = (0, Accept 0 0 []) ∷ []
@@ -61,7 +52,7 @@ module _ (others : ℕ) where
   stage-asks kind x = by-made (nat_lt x.made others) refl
     where
       by-made : (b : Bool) → nat_lt x.made others ≡ b → IsRequestOf (ring others) (if b then Create (x.made + 1) [] else asked_in others kind x.phase)
-      by-made true e = kind-there (others + 1) (x.made + 1) (one-more x.made others (less x.made others e))
+      by-made true e = kind-there (others + 1) (x.made + 1) (one-more x.made others (ltb-true x.made others e))
       by-made false e = phase-asks kind x.phase
 
   pub ring_well_formed : WellFormed (ring others)
@@ -72,7 +63,7 @@ module _ (others : ℕ) where
       }
     where
       zero-below : (n : ℕ) → 0 < n + 1
-      zero-below n = zero-lt-suc n
+      zero-below n = omega arith
 
   phase-at-sites : (kind : ℕ) (x : Phase) → NamesSites 1 (asked_in others kind x)
   phase-at-sites kind phase.Call = tt
