@@ -3,13 +3,14 @@
 //! What a kernel is to its callers stands in `specs/Contract`, and speaks of nothing inside.
 //!
 //! What is kept (`Store`) is a seat for each process by number, the pending calls in the order asked, and of each process the
-//! calls that it serves, in the order accepted. A seat says how its process stands and its whereabouts: ready with its next grant, out,
-//! waiting, or gone. Beside the seats stand how many processes run, are over, were stopped by a fault or have `terminate` among
-//! their alternatives, and the numbers of those that are ready, in the order in which they became so (`AreKept` in
-//! `specs/Counted`): a count changes where a standing does. The pending calls stand in the queues of cc_queue, and who waits for
-//! each in a map beside them (`specs/Asked`). The calls that a process serves are a stack: each stands in a map by its process and by
-//! how many calls are around it, and a second map tells how many each process serves (`specs/Stacks`). The state of the machine isn't stored. It is the run of the journal, and the
-//! kernel's invariant says that what is kept is that state (`IsState` in `specs/Store`, `IsKept` in `specs/Invariant`).
+//! calls that it serves, in the order accepted. A seat says how its process stands and its whereabouts: ready with its next
+//! grant, out, waiting, or gone. Beside the seats stand how many processes run, are over, were stopped by a fault or have
+//! `terminate` among their alternatives, and the numbers of those that are ready, in the order in which they became so
+//! (`AreKept` in `specs/Counted`): a count changes where a standing does. The pending calls stand in the queues of cc_queue,
+//! and who waits for each in a map beside them (`specs/Asked`). The calls that a process serves are a stack: each stands in a
+//! map by its process and by how many calls are around it, and a second map tells how many each process serves
+//! (`specs/Stacks`). The state of the machine isn't stored. It is the run of the journal, and the kernel's invariant says that
+//! what is kept is that state (`IsState` in `specs/Store`, `IsKept` in `specs/Invariant`).
 //!
 //! A step has three parts: what the process asks is performed (`perform`), the journal says so, and the machine settles
 //! (`settle`).

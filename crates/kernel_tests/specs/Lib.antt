@@ -4,3 +4,5 @@ pub mod Worked
 pub mod Tables
 -- laws of both
 pub mod lemmas
+-- a ring of processes that call one another
+pub mod Ring

@@ -21,7 +21,7 @@ fn events_of(alloc: Global, journal: &Journal) -> Result<Vec<Event>, Memory> {
     Ok(events)
 }
 
-fn script(
+pub(crate) fn script(
     alloc: Global,
     main: &[Step],
     first: &[Step],
@@ -36,14 +36,14 @@ fn script(
 }
 
 /// The journal of one worker.
-fn journal(alloc: Global, code: &Arc<Script>) -> Result<Vec<Event>, Memory> {
+pub(crate) fn journal(alloc: Global, code: &Arc<Script>) -> Result<Vec<Event>, Memory> {
     let sink = MemSink::new(alloc, 1, Cells::new(alloc));
     let ran = drive(alloc, code, Bytes::new(alloc), 1_000, sink);
     events_of(alloc, &ran.journal)
 }
 
 /// A stepper that took these events; none where one of them was refused.
-fn after(
+pub(crate) fn after(
     alloc: Global,
     code: &Arc<Script>,
     events: &[Event],
@@ -62,12 +62,16 @@ fn after(
     Ok(Some(plain))
 }
 
-fn is_taken(alloc: Global, code: &Arc<Script>, events: &[Event]) -> Result<bool, Memory> {
+pub(crate) fn is_taken(
+    alloc: Global,
+    code: &Arc<Script>,
+    events: &[Event],
+) -> Result<bool, Memory> {
     Ok(after(alloc, code, events)?.is_some())
 }
 
 /// Whether the events are refused with this one at this index in place of what stands there.
-fn is_refused_with(
+pub(crate) fn is_refused_with(
     alloc: Global,
     code: &Arc<Script>,
     events: &[Event],
@@ -83,7 +87,7 @@ fn is_refused_with(
 }
 
 /// Whether the events are refused without the one at this index.
-fn is_refused_without(
+pub(crate) fn is_refused_without(
     alloc: Global,
     code: &Arc<Script>,
     events: &[Event],
@@ -98,7 +102,7 @@ fn is_refused_without(
 }
 
 /// Whether the events are refused with the one at this index and the next in each other's place.
-fn is_refused_swapped(
+pub(crate) fn is_refused_swapped(
     alloc: Global,
     code: &Arc<Script>,
     events: &[Event],
@@ -115,7 +119,7 @@ fn is_refused_swapped(
 }
 
 /// Whether the events are refused with `end` before the one at this index.
-fn is_refused_ended(
+pub(crate) fn is_refused_ended(
     alloc: Global,
     code: &Arc<Script>,
     events: &[Event],
@@ -129,14 +133,14 @@ fn is_refused_ended(
     Ok(!is_taken(alloc, code, changed.as_slice())?)
 }
 
-fn ask(pid: u32, word: Word) -> Event {
+pub(crate) fn ask(pid: u32, word: Word) -> Event {
     Event::Ask {
         pid: Pid(pid),
         word,
     }
 }
 
-fn accept(pid: u32, alt: u32, call: u32) -> Event {
+pub(crate) fn accept(pid: u32, alt: u32, call: u32) -> Event {
     Event::Accept {
         pid: Pid(pid),
         alt,
@@ -144,7 +148,7 @@ fn accept(pid: u32, alt: u32, call: u32) -> Event {
     }
 }
 
-fn instant(pid: u32, alt: u32) -> Event {
+pub(crate) fn instant(pid: u32, alt: u32) -> Event {
     Event::Instant { pid: Pid(pid), alt }
 }
 

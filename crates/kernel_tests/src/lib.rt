@@ -8,6 +8,11 @@ mod judged;
 mod kernel;
 #[cfg(test)]
 mod lists;
+mod ring;
+#[cfg(test)]
+mod rows;
 #[cfg(test)]
 mod tables;
 mod worked;
+
+pub use ring::{Member, Phase, Ring, Stage, run_ring};

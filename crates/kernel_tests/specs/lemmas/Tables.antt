@@ -8,8 +8,7 @@ use Rattle.std.proofs.lemmas.List.Kept.{AllPairs-cons}
 use Rattle.cc_base.specs.Alternatives.{NumbersRise}
 use Rattle.cc_base.specs.Requests.{HasSites, IsAlternativeOf, IsAtSite, IsRequestOf, NamesSites, WellFormed}
 use Rattle.cc_base.specs.declared.alternatives.Alt.{Alt}
-use Rattle.cc_base.specs.declared.alternatives.Alt.TheVariants.{Accept, Now, Terminate}
-use Rattle.cc_base.specs.declared.request.Grant.{Grant}
+use Rattle.cc_base.specs.declared.alternatives.Alt.TheVariants.{Now, Terminate}
 use Rattle.cc_base.specs.declared.request.Request.TheVariants.{Select}
 use Rattle.cc_kernel.specs.Untimed.{AsksNoDeadline, HasNoDeadline, NoDelays}
 use Rattle.kernel_tests.specs.Tables.{Step, accept_of, alternatives_of, asked, rank_at, request_of, scripted, steps_of, trans_of}
