@@ -17,7 +17,7 @@ import tempfile
 
 HERE = pathlib.Path(__file__).resolve().parent
 CRATES = HERE.parent / "crates"
-BELOW = {"cc_base": "", "cc_code": "cc_base itoa sqlite_items thiserror", "cc_vm": "cc_base cc_code sqlite_items"}
+BELOW = {"cc_base": "", "cc_code": "cc_base itoa sqlite_items thiserror", "cc_vm": "cc_base cc_code itoa sqlite_items"}
 LOOPS = ["plain", "calling"]
 
 

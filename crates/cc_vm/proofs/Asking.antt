@@ -9,7 +9,8 @@ use Rattle.cc_base.specs.declared.names.Pid.{Pid}
 use Rattle.cc_base.specs.declared.request.Request.{Request}
 use Rattle.cc_base.specs.declared.request.Request.TheVariants as request
 use Rattle.cc_code.proofs.Proper.{follows-stop}
-use Rattle.cc_code.specs.Operands.{kind_at, shape_at, takes}
+use Rattle.cc_base.specs.Formats.{conversions, formatted}
+use Rattle.cc_code.specs.Operands.{format_at, kind_at, shape_at, takes}
 use Rattle.cc_code.specs.Rules.{IsVerified}
 use Rattle.cc_code.specs.Steps.{Asks, State, Stops, after, performed, popped, renews, step, stepped, with_grants, within_bound, worked, worked_on}
 use Rattle.cc_code.specs.Works.{Store, go_to, in_time, works}
@@ -201,6 +202,15 @@ module _ (k : RawCode) (F : List Frame) (S C : List ℤ) (r : Registers) (offers
       nil-from : (xs : List ℤ) → length xs ≡ 0 → xs ≡ []
       nil-from [] e = refl
       nil-from (x ∷ xs) e = absurd (omega (arith, e))
+  asks-by (instr.Format f) at fit q h =
+      let n : ℕ = conversions (format_at k f) in
+      let numbers : List ℤ = between (r.top - n) r.top S in
+      let e : length numbers ≡ r.top - (r.top - n) = length-between (r.top - n) r.top S fit.top in
+      some-is q (request.Print (formatted (format_at k f) numbers)) h (
+        asked k (instr.Format f) F S C r at (λ s. refl) offers (r.top - n) numbers (request.Print (formatted (format_at k f) numbers)) (omega (arith, fit.operands, fit.low)) (omega arith) fit.top refl
+            (omega (arith, e, fit.operands)) refl,
+        tt,
+      )
   asks-by instr.End at fit q h = some-is q request.Done h (ap (λ (o : Option Instr). stepped k o now) at, tt)
   asks-by i at fit q h = absurd (let e : Some q ≡ None = h in cc)
 

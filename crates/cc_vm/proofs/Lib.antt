@@ -7,5 +7,6 @@ pub mod Fragments
 pub mod Growing
 pub mod Heights
 pub mod Pausing
+pub mod Printing
 pub mod Running
 pub mod Sites

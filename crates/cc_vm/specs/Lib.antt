@@ -3,4 +3,5 @@ pub mod Endings
 pub mod Fragments
 pub mod Lists
 pub mod Machine
+pub mod Printing
 pub mod Running

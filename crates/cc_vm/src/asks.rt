@@ -3,11 +3,13 @@
 ghost use Rattle.std.specs.Prelude.{◌≡◌, ◌+◌, ◌-◌, ◌<◌, ◌≤◌, ◌∷◌, [], length, IfOk};
 ghost use Rattle.cc_base.specs.Numbers.{byte_of, callee};
 ghost use Rattle.cc_base.specs.declared.request.Request.TheVariants as request;
-ghost use Rattle.cc_code.specs.Operands.{kind_at, shape_at, takes};
+ghost use Rattle.cc_base.specs.Formats.{conversions, formatted};
+ghost use Rattle.cc_code.specs.Operands.{format_at, kind_at, shape_at, takes};
 ghost use Rattle.cc_vm.specs.Asking.{Requested, addressed};
 ghost use Rattle.cc_vm.specs.Machine.{between, cell_of};
 
 use crate::arms::cell_at;
+use crate::prints::{numbers_of, print_format};
 use cc_base::arithmetic::{byte_of, callee};
 use cc_base::{Bytes, Cells, Memory, Request, Shape};
 use cc_code::{Instr, Part, RawCode};
@@ -56,6 +58,16 @@ fn shape_at(raw: &RawCode, trans: u32) -> Shape
     match raw.transactions.get(trans as usize) {
         Some(shape) => *shape,
         None => NO_SHAPE,
+    }
+}
+
+/// The format of this number, or an empty one.
+fn format_at<'r>(raw: &'r RawCode, format: u32) -> &'r [u8]
+    ensures { result.now ≡ format_at raw.now format }
+{
+    match raw.formats.get(format as usize) {
+        Some(bytes) => bytes.as_slice(),
+        None => b"",
     }
 }
 
@@ -176,7 +188,18 @@ fn print_byte(alloc: Global, number: i64) -> Result<Request, Memory>
     Ok(Request::Print { bytes })
 }
 
-/// What the instruction asks; none where it is of another kind, or where more is to be known than its operands.
+/// A format with the numbers on the top.
+fn print(alloc: Global, stack: &[i64], top: usize, format: &[u8]) -> Result<Request, Memory>
+    requires operands { conversions format.now ≤ top }
+    requires top { top ≤ length stack.now }
+    ensures { IfOk result (λ q. q ≡ request.Print (formatted format.now (between (top - conversions format.now) top stack.now))) }
+{
+    let numbers = operands(alloc, stack, top - numbers_of(format), top)?;
+    let bytes = print_format(alloc, format, &numbers)?;
+    Ok(Request::Print { bytes })
+}
+
+/// What the instruction asks; none where it opens an alternative or selects, and where it asks nothing.
 pub(crate) fn request_of(
     alloc: Global,
     raw: &RawCode,
@@ -219,6 +242,7 @@ pub(crate) fn request_of(
         Instr::Reply(cells) => Some(reply(alloc, stack, top, cells as usize)?),
         Instr::PutByte => Some(print_byte(alloc, cell_at(stack, top - 1))?),
         Instr::GetByte => Some(Request::Get),
+        Instr::Format(format) => Some(print(alloc, stack, top, format_at(raw, format))?),
         Instr::End => Some(Request::Done),
         _ => None,
     })

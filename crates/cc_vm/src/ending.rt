@@ -8,6 +8,6 @@ pub enum Ending {
     Paused,
     /// It asks this.
     Asks(Request),
-    /// It comes to this instruction, which opens an alternative, selects or prints a format.
+    /// It comes to this instruction, which opens an alternative or selects.
     At(Instr),
 }

@@ -110,7 +110,7 @@ fn ending_at(
     Ok(ending_of(request, instr))
 }
 
-/// A slice: up to a pause, to what is asked, or to an instruction that opens an alternative, selects or prints a format.
+/// A slice: up to a pause, to what is asked, or to an instruction that opens an alternative or selects.
 fn slice(alloc: Global, raw: &RawCode, room: usize, lists: &mut Lists) -> Result<Ending, Memory>
     requires verified { IsVerified raw.now }
     requires room { IsRoom raw.now room }

@@ -1,0 +1,11 @@
+//! Tests of the stack machine. They stand apart from the library, since a crate with tests is proved twice.
+#![tactic(auto)]
+
+#[cfg(test)]
+mod building;
+#[cfg(test)]
+mod programs;
+#[cfg(test)]
+mod ranks;
+#[cfg(test)]
+mod requests;
