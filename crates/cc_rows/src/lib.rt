@@ -9,25 +9,15 @@ mod found;
 mod made;
 mod names;
 mod places;
-mod rows;
-mod sums;
 
 pub use answers::{Least, pair};
 pub use found::{element_of, part_of, type_in, value_of, variable, with_step, within_parentheses};
 pub use made::{
-    argument_for, both_of, chosen, complemented, either_of, kept, negated, plussed, printed, put,
-    put_out, stepped_after, stepped_before, stored, updated,
+    argument_for, both_of, complemented, either_of, kept, negated, plussed, printed, put, put_out,
+    stepped_after, stepped_before, stored, updated,
 };
 pub use names::{
     as_many, as_many_names, fresh, function_called, has_field, value_named, visible, visible_type,
     with_body, with_specification,
 };
 pub use places::{has_value, impure, in_body, leaving, not_deep, outside_accept, replying};
-pub use rows::{
-    any_target, array_in, assigned, comparable, fitting, no_array, number, number_target,
-    process_in, structure_in, target,
-};
-pub use sums::{
-    Row, Sum, Timed, added, compared_in, indexed, row_from, sum_from, summed, timed, waited,
-    with_comparison,
-};

@@ -4,10 +4,8 @@ ghost use Rattle.std.specs.Prelude.{◌≡◌, IfOk};
 ghost use Rattle.cc_faults.specs.Expressions as phrase;
 ghost use Rattle.cc_faults.specs.Judged.{answer_map, answer_pair, answer_put, second};
 ghost use Rattle.cc_faults.specs.Made as made;
-ghost use Rattle.cc_typed.specs.declared.tree.Expression.TheVariants as typed;
 
 use crate::answers::pair;
-use crate::found::{type_in, value_of};
 use cc_base::{NumberType, Operator, arithmetic};
 use cc_faults::{Answer, Found, StepWord};
 use cc_typed::{Argument, Change, DataType, Expression, Location};
@@ -102,62 +100,6 @@ pub fn either_of(
             let first = Boxed::new(alloc, first)?;
             Ok(Answer::Good(Found::Value(Expression::Either { first, rest })))
         }
-        Answer::Typeless => Ok(Answer::Typeless),
-        Answer::Faulty => Ok(Answer::Faulty),
-    }
-}
-
-/// The type of a choice between arms that fit each other.
-fn choice_of(t: DataType, u: DataType) -> DataType
-    ensures { result ≡ made.choice_of t u }
-{
-    if t.is_arithmetic() && u.is_arithmetic() {
-        return DataType::number(arithmetic::wider(t.number_type(), u.number_type()));
-    }
-    t
-}
-
-fn choice(alloc: Global, condition: Expression, yes: Found, no: Found) -> Result<Found, AllocError>
-    ensures { IfOk result (λ r. r ≡ phrase.chosen (condition, (yes, no))) }
-{
-    let data_type = choice_of(type_in(&yes), type_in(&no));
-    let yes = value_of(alloc, yes)?;
-    let no = value_of(alloc, no)?;
-    Ok(boxed_choice(alloc, condition, yes, no, data_type)?)
-}
-
-fn boxed_choice(
-    alloc: Global,
-    condition: Expression,
-    yes: Expression,
-    no: Expression,
-    data_type: DataType,
-) -> Result<Found, AllocError>
-    ensures { IfOk result (λ r. r ≡ phrase.value (typed.Choose condition yes no data_type)) }
-{
-    let condition = Boxed::new(alloc, condition)?;
-    let yes = Boxed::new(alloc, yes)?;
-    let no = Boxed::new(alloc, no)?;
-    Ok(Found::Value(Expression::Choose {
-        condition,
-        yes,
-        no,
-        data_type,
-    }))
-}
-
-/// `c ? x : y`
-pub fn chosen(
-    alloc: Global,
-    condition: Answer<Expression>,
-    arms: Answer<(Found, Found)>,
-) -> Result<Answer<Found>, AllocError>
-    ensures chosen { IfOk result (λ r. r ≡ answer_map phrase.chosen (answer_pair condition arms)) }
-{
-    match pair(condition, arms) {
-        Answer::Good((condition, (yes, no))) => Ok(Answer::Good(choice(
-            alloc, condition, yes, no,
-        )?)),
         Answer::Typeless => Ok(Answer::Typeless),
         Answer::Faulty => Ok(Answer::Faulty),
     }
