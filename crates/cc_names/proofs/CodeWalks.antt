@@ -15,7 +15,7 @@ use Rattle.cc_grammar.specs.declared.tree.Statement.{Statement, Empty, Block, Ex
 use Rattle.cc_names.specs.declared.mentions.Numbers.{Numbers}
 use Rattle.cc_names.specs.Mentions.{Mention, in_alternatives, in_choice, in_clauses, in_declarators, in_entries, in_entry, in_expression, in_list, in_name, in_names, in_optional_expression, in_statement, in_type}
 use Rattle.cc_names.specs.Seen.{after, in_accept, in_all_alternatives, in_header, in_optional_list}
-use Rattle.cc_names.proofs.Walks.{after-append, after-nothing, after-one}
+use Rattle.cc_names.proofs.Walks.{after-append, after-nothing, after-more}
 use denote.Hole.Carrier.{hidden}
 
 entries-row : {n : _} (row : Row_of-Entry n) → in_entries row ≡ in_list (items-the_row-Entry n row)
@@ -131,4 +131,4 @@ pub choice-Terminate : (p : Place) → in_choice (Terminate p) ≡ []
 unfolding in_entry
 choice-Terminate p = refl
 
-pub ruleset seen_statements = (after-append, after-nothing, after-one, append-nil, entry-Local, entry-Statement, mentions-Empty, mentions-Block, mentions-Expression, mentions-If, mentions-IfElse, mentions-While, mentions-Do, mentions-For, mentions-Break, mentions-Continue, mentions-Return, mentions-Treturn, mentions-Delay, mentions-Accept, mentions-Select, choice-Accept, choice-Delay, choice-Immediate, choice-Terminate)
+pub ruleset seen_statements = (after-append, after-nothing, after-more, append-nil, entry-Local, entry-Statement, mentions-Empty, mentions-Block, mentions-Expression, mentions-If, mentions-IfElse, mentions-While, mentions-Do, mentions-For, mentions-Break, mentions-Continue, mentions-Return, mentions-Treturn, mentions-Delay, mentions-Accept, mentions-Select, choice-Accept, choice-Delay, choice-Immediate, choice-Terminate)

@@ -30,9 +30,9 @@ pub after-nothing : (n : Numbers) → after n [] ≡ n
 unfolding after
 after-nothing n = refl
 
-pub after-one : (n : Numbers) (m : Mention) → after n (m ∷ []) ≡ with n m
+pub after-more : (n : Numbers) (m : Mention) (ms : List Mention) → after n (m ∷ ms) ≡ after (with n m) ms
 unfolding after
-after-one n m = refl
+after-more n m ms = refl
 
 expressions-row : {n : _} (row : Row_of-Expression n) → in_expressions row ≡ in_all_expressions (items-the_row-Expression n row)
 unfolding in_expression
@@ -188,6 +188,6 @@ formats-after n (Formatted f ∷ ms) = formats-after (with n (Formatted f)) ms
 
 pub ruleset numbered_names = (names-after, formats-after)
 
-pub ruleset seen = (after-append, after-nothing, after-one, append-nil)
+pub ruleset seen = (after-append, after-nothing, after-more, append-nil)
 
-pub ruleset seen_expressions = (after-append, after-nothing, after-one, append-nil, mentions-Within, mentions-Store, mentions-Choice, mentions-Disjunction, mentions-Conjunction, mentions-Equality, mentions-Order, mentions-Sum, mentions-Term, mentions-Prefixed, mentions-Postfix, mentions-Number, mentions-Character, mentions-Name, mentions-Call, mentions-Create, mentions-Putchar, mentions-Getchar, mentions-Printf, mentions-Parenthesised, step-Field, step-Call, step-Index)
+pub ruleset seen_expressions = (after-append, after-nothing, after-more, append-nil, mentions-Within, mentions-Store, mentions-Choice, mentions-Disjunction, mentions-Conjunction, mentions-Equality, mentions-Order, mentions-Sum, mentions-Term, mentions-Prefixed, mentions-Postfix, mentions-Number, mentions-Character, mentions-Name, mentions-Call, mentions-Create, mentions-Putchar, mentions-Getchar, mentions-Printf, mentions-Parenthesised, step-Field, step-Call, step-Index)

@@ -2,14 +2,13 @@
 
 ghost use Rattle.std.specs.Prelude.{◌≡◌, OnOk};
 ghost use Rattle.cc_names.specs.Mentions.{in_choice, in_clauses, in_declarators, in_entry, in_list, in_optional_expression, in_statement};
-ghost use Rattle.cc_names.specs.Seen.{after, in_accept, in_all_alternatives, in_declarator, in_header, in_optional_list};
+ghost use Rattle.cc_names.specs.Seen.{after, in_accept, in_all_alternatives, in_declarator, in_header};
 
 use crate::mentions::{Numbers, see_expression, see_length, see_name, see_names, see_type};
 use cc_base::Memory;
 use cc_grammar::{
     Accept, Alternative, Choice, Clauses, Entry, Expression, ForHeader, LocalDeclarator, Statement,
 };
-use sqlite_items::Items;
 
 #[tactic(auto, using(crate::proofs::Walks::seen))]
 fn see_optional_expression<'t>(
@@ -101,20 +100,6 @@ pub(crate) fn see_entries<'t>(numbers: &mut Numbers<'t>, all: &'t [Entry]) -> Re
 
 #[cycle(statements)]
 #[tactic(auto, using(crate::proofs::CodeWalks::seen_statements))]
-fn see_optional_entries<'t>(
-    numbers: &mut Numbers<'t>,
-    all: &'t Option<Items<Entry>>,
-) -> Result<(), Memory>
-    ensures { OnOk result (numbers.new ≡ after numbers.old (in_optional_list all.now)) }
-{
-    match all {
-        None => Ok(()),
-        Some(all) => see_entries(numbers, all.as_slice()),
-    }
-}
-
-#[cycle(statements)]
-#[tactic(auto, using(crate::proofs::CodeWalks::seen_statements))]
 fn see_statement<'t>(numbers: &mut Numbers<'t>, s: &'t Statement) -> Result<(), Memory>
     ensures { OnOk result (numbers.new ≡ after numbers.old (in_statement s.now)) }
 {
@@ -174,7 +159,10 @@ fn see_accept<'t>(numbers: &mut Numbers<'t>, accept: &'t Accept) -> Result<(), M
     see_name(numbers, &accept.name)?;
     see_names(numbers, accept.names.as_slice())?;
     see_clauses(numbers, &accept.clauses)?;
-    see_optional_entries(numbers, &accept.block)
+    match &accept.block {
+        None => Ok(()),
+        Some(all) => see_entries(numbers, all.as_slice()),
+    }
 }
 
 #[cycle(statements)]

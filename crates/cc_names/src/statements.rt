@@ -1,8 +1,8 @@
 //! The plain statements of a text.
 
-ghost use Rattle.std.specs.Prelude.{◌≡◌, ◌++◌, ◌∷◌, [], IfOk, OnOk, map};
+ghost use Rattle.std.specs.Prelude.{◌≡◌, ◌++◌, ◌∷◌, [], IfOk, map};
 ghost use Rattle.cc_faults.specs.declared.plain.Statement.TheVariants as plain;
-ghost use Rattle.cc_names.specs.PlainLists.{accept_of, alternative, for_header, optional_block_of};
+ghost use Rattle.cc_names.specs.PlainLists.{accept_of, alternative, for_header};
 ghost use Rattle.cc_names.specs.Plains as spec;
 
 use crate::mentions::Numbers;
@@ -64,20 +64,28 @@ fn local(
     Ok(Statement::Declare(Local { of, name, form }))
 }
 
-fn push_locals(
+fn locals(
     alloc: Global,
     numbers: &Numbers,
-    found: &mut Items<Statement>,
     of: &TypeName,
     all: &[LocalDeclarator],
-) -> Result<(), Memory>
-    ensures { OnOk result (found.new ≡ found.old ++ map (spec.local_of numbers.now.names numbers.now.formats of.now) all.now) }
+) -> Result<Items<Statement>, Memory>
+    ensures { IfOk result (λ b. b ≡ map (spec.local_of numbers.now.names numbers.now.formats of.now) all.now) }
 {
+    let mut found = Items::new(alloc);
     for d in all {
         let one = local(alloc, numbers, of, d)?;
         found.push(one)?;
     }
-    Ok(())
+    Ok(found)
+}
+
+fn single(alloc: Global, s: Statement) -> Result<Items<Statement>, Memory>
+    ensures { IfOk result (λ b. b ≡ s ∷ []) }
+{
+    let mut found = Items::new(alloc);
+    found.push(s)?;
+    Ok(found)
 }
 
 fn clause(
@@ -164,6 +172,74 @@ fn boxed_optional(
     Ok(Boxed::new(alloc, e)?)
 }
 
+fn if_of(
+    alloc: Global,
+    numbers: &Numbers,
+    condition: &Expression,
+    body: Boxed<Statement>,
+) -> Result<Statement, Memory>
+    ensures { IfOk result (λ y. y ≡ plain.If (spec.plain_expression numbers.now.names numbers.now.formats condition.now) body) }
+{
+    let condition = phrase(alloc, numbers, condition)?;
+    Ok(Statement::If { condition, body })
+}
+
+fn if_else_of(
+    alloc: Global,
+    numbers: &Numbers,
+    condition: &Expression,
+    yes: Boxed<Statement>,
+    no: Boxed<Statement>,
+) -> Result<Statement, Memory>
+    ensures { IfOk result (λ y. y ≡ plain.IfElse (spec.plain_expression numbers.now.names numbers.now.formats condition.now) yes no) }
+{
+    let condition = phrase(alloc, numbers, condition)?;
+    Ok(Statement::IfElse { condition, yes, no })
+}
+
+fn while_of(
+    alloc: Global,
+    numbers: &Numbers,
+    condition: &Expression,
+    body: Boxed<Statement>,
+) -> Result<Statement, Memory>
+    ensures { IfOk result (λ y. y ≡ plain.While (spec.plain_expression numbers.now.names numbers.now.formats condition.now) body) }
+{
+    let condition = phrase(alloc, numbers, condition)?;
+    Ok(Statement::While { condition, body })
+}
+
+fn do_of(
+    alloc: Global,
+    numbers: &Numbers,
+    body: Boxed<Statement>,
+    condition: &Expression,
+) -> Result<Statement, Memory>
+    ensures { IfOk result (λ y. y ≡ plain.DoWhile body (spec.plain_expression numbers.now.names numbers.now.formats condition.now)) }
+{
+    let condition = phrase(alloc, numbers, condition)?;
+    Ok(Statement::DoWhile { body, condition })
+}
+
+fn for_of(
+    alloc: Global,
+    numbers: &Numbers,
+    header: &ForHeader,
+    body: Boxed<Statement>,
+) -> Result<Statement, Memory>
+    ensures { IfOk result (λ y. y ≡ for_header numbers.now.names numbers.now.formats header.now body) }
+{
+    let first = boxed_optional(alloc, numbers, &header.first)?;
+    let condition = boxed_optional(alloc, numbers, &header.condition)?;
+    let next = boxed_optional(alloc, numbers, &header.step)?;
+    Ok(Statement::For {
+        first: first.into_inner(),
+        condition: condition.into_inner(),
+        next: next.into_inner(),
+        body,
+    })
+}
+
 /// The plain statements of these entries: each variable is a statement of its own.
 #[cycle(statements)]
 #[tactic(auto, using(crate::proofs::PlainCode::plain_statements))]
@@ -176,27 +252,22 @@ pub(crate) fn block(
 {
     let mut found = Items::new(alloc);
     for x in all {
-        push_entry(alloc, numbers, &mut found, x)?;
+        let more = entry(alloc, numbers, x)?;
+        found.append(more)?;
     }
     Ok(found)
 }
 
 #[cycle(statements)]
 #[tactic(auto, using(crate::proofs::PlainCode::plain_statements))]
-fn push_entry(
-    alloc: Global,
-    numbers: &Numbers,
-    found: &mut Items<Statement>,
-    entry: &Entry,
-) -> Result<(), Memory>
-    ensures { OnOk result (found.new ≡ found.old ++ spec.entry numbers.now.names numbers.now.formats entry.now) }
+fn entry(alloc: Global, numbers: &Numbers, x: &Entry) -> Result<Items<Statement>, Memory>
+    ensures { IfOk result (λ b. b ≡ spec.entry numbers.now.names numbers.now.formats x.now) }
 {
-    match entry {
-        Entry::Local(l) => push_locals(alloc, numbers, found, &l.of, l.declarators.as_slice()),
+    match x {
+        Entry::Local(l) => locals(alloc, numbers, &l.of, l.declarators.as_slice()),
         Entry::Statement(s) => {
             let one = statement(alloc, numbers, s)?;
-            found.push(one)?;
-            Ok(())
+            single(alloc, one)
         }
     }
 }
@@ -214,29 +285,40 @@ fn statement(alloc: Global, numbers: &Numbers, s: &tree::Statement) -> Result<St
             condition,
             then,
             ..
-        } => if_then(alloc, numbers, condition, then.get()),
+        } => {
+            let body = boxed_statement(alloc, numbers, then.get())?;
+            if_of(alloc, numbers, condition, body)
+        }
         tree::Statement::IfElse {
             condition,
             then,
             otherwise,
             ..
-        } => if_else(alloc, numbers, condition, then.get(), otherwise.get()),
+        } => {
+            let yes = boxed_statement(alloc, numbers, then.get())?;
+            let no = boxed_statement(alloc, numbers, otherwise.get())?;
+            if_else_of(alloc, numbers, condition, yes, no)
+        }
         tree::Statement::While {
             condition,
             body,
             ..
-        } => while_loop(alloc, numbers, condition, body.get()),
+        } => {
+            let body = boxed_statement(alloc, numbers, body.get())?;
+            while_of(alloc, numbers, condition, body)
+        }
         tree::Statement::Do {
             body,
             condition,
             ..
-        } => do_loop(alloc, numbers, body.get(), condition),
-        tree::Statement::For { header, body, .. } => for_loop(
-            alloc,
-            numbers,
-            header.get(),
-            body.get(),
-        ),
+        } => {
+            let body = boxed_statement(alloc, numbers, body.get())?;
+            do_of(alloc, numbers, body, condition)
+        }
+        tree::Statement::For { header, body, .. } => {
+            let body = boxed_statement(alloc, numbers, body.get())?;
+            for_of(alloc, numbers, header.get(), body)
+        }
         tree::Statement::Break(place) => Ok(Statement::Break(*place)),
         tree::Statement::Continue(place) => Ok(Statement::Continue(*place)),
         tree::Statement::Return(place, e) => Ok(Statement::Return(
@@ -248,7 +330,9 @@ fn statement(alloc: Global, numbers: &Numbers, s: &tree::Statement) -> Result<St
             optional_phrase(alloc, numbers, e)?,
         )),
         tree::Statement::Delay(_, e) => Ok(Statement::Delay(phrase(alloc, numbers, e)?)),
-        tree::Statement::Accept(a) => accept_statement(alloc, numbers, a.get()),
+        tree::Statement::Accept(a) => Ok(Statement::Accept {
+            part: part(alloc, numbers, a.get())?,
+        }),
         tree::Statement::Select(place, all) => Ok(Statement::Select(
             *place,
             alternatives(alloc, numbers, all.as_slice())?,
@@ -271,127 +355,18 @@ fn boxed_statement(
 
 #[cycle(statements)]
 #[tactic(auto, using(crate::proofs::PlainCode::plain_statements))]
-fn if_then(
-    alloc: Global,
-    numbers: &Numbers,
-    condition: &Expression,
-    then: &tree::Statement,
-) -> Result<Statement, Memory>
-    ensures { IfOk result (λ y. y ≡ plain.If (spec.plain_expression numbers.now.names numbers.now.formats condition.now) (spec.plain_statement numbers.now.names numbers.now.formats then.now)) }
-{
-    let body = boxed_statement(alloc, numbers, then)?;
-    let condition = phrase(alloc, numbers, condition)?;
-    Ok(Statement::If { condition, body })
-}
-
-#[cycle(statements)]
-#[tactic(auto, using(crate::proofs::PlainCode::plain_statements))]
-fn if_else(
-    alloc: Global,
-    numbers: &Numbers,
-    condition: &Expression,
-    then: &tree::Statement,
-    otherwise: &tree::Statement,
-) -> Result<Statement, Memory>
-    ensures { IfOk result (λ y. y ≡ plain.IfElse (spec.plain_expression numbers.now.names numbers.now.formats condition.now) (spec.plain_statement numbers.now.names numbers.now.formats then.now) (spec.plain_statement numbers.now.names numbers.now.formats otherwise.now)) }
-{
-    let yes = boxed_statement(alloc, numbers, then)?;
-    let no = boxed_statement(alloc, numbers, otherwise)?;
-    let condition = phrase(alloc, numbers, condition)?;
-    Ok(Statement::IfElse { condition, yes, no })
-}
-
-#[cycle(statements)]
-#[tactic(auto, using(crate::proofs::PlainCode::plain_statements))]
-fn while_loop(
-    alloc: Global,
-    numbers: &Numbers,
-    condition: &Expression,
-    body: &tree::Statement,
-) -> Result<Statement, Memory>
-    ensures { IfOk result (λ y. y ≡ plain.While (spec.plain_expression numbers.now.names numbers.now.formats condition.now) (spec.plain_statement numbers.now.names numbers.now.formats body.now)) }
-{
-    let body = boxed_statement(alloc, numbers, body)?;
-    let condition = phrase(alloc, numbers, condition)?;
-    Ok(Statement::While { condition, body })
-}
-
-#[cycle(statements)]
-#[tactic(auto, using(crate::proofs::PlainCode::plain_statements))]
-fn do_loop(
-    alloc: Global,
-    numbers: &Numbers,
-    body: &tree::Statement,
-    condition: &Expression,
-) -> Result<Statement, Memory>
-    ensures { IfOk result (λ y. y ≡ plain.DoWhile (spec.plain_statement numbers.now.names numbers.now.formats body.now) (spec.plain_expression numbers.now.names numbers.now.formats condition.now)) }
-{
-    let body = boxed_statement(alloc, numbers, body)?;
-    let condition = phrase(alloc, numbers, condition)?;
-    Ok(Statement::DoWhile { body, condition })
-}
-
-#[cycle(statements)]
-#[tactic(auto, using(crate::proofs::PlainCode::plain_statements))]
-fn for_loop(
-    alloc: Global,
-    numbers: &Numbers,
-    header: &ForHeader,
-    body: &tree::Statement,
-) -> Result<Statement, Memory>
-    ensures { IfOk result (λ y. y ≡ for_header numbers.now.names numbers.now.formats header.now (spec.plain_statement numbers.now.names numbers.now.formats body.now)) }
-{
-    let body = boxed_statement(alloc, numbers, body)?;
-    let first = boxed_optional(alloc, numbers, &header.first)?;
-    let condition = boxed_optional(alloc, numbers, &header.condition)?;
-    let next = boxed_optional(alloc, numbers, &header.step)?;
-    Ok(Statement::For {
-        first: first.into_inner(),
-        condition: condition.into_inner(),
-        next: next.into_inner(),
-        body,
-    })
-}
-
-#[cycle(statements)]
-#[tactic(auto, using(crate::proofs::PlainCode::plain_statements))]
 fn part(alloc: Global, numbers: &Numbers, accept: &tree::Accept) -> Result<AcceptPart, Memory>
     ensures { IfOk result (λ y. y ≡ accept_of numbers.now.names numbers.now.formats accept.now) }
 {
+    let block = match &accept.block {
+        None => Items::new(alloc),
+        Some(all) => block(alloc, numbers, all.as_slice())?,
+    };
     let head = boxed_head(alloc, numbers, accept)?;
-    let block = optional_block(alloc, numbers, &accept.block)?;
     Ok(AcceptPart {
         head: head.into_inner(),
         block,
     })
-}
-
-#[cycle(statements)]
-#[tactic(auto, using(crate::proofs::PlainCode::plain_statements))]
-fn optional_block(
-    alloc: Global,
-    numbers: &Numbers,
-    all: &Option<Items<Entry>>,
-) -> Result<Items<Statement>, Memory>
-    ensures { IfOk result (λ y. y ≡ optional_block_of numbers.now.names numbers.now.formats all.now) }
-{
-    match all {
-        None => Ok(Items::new(alloc)),
-        Some(all) => block(alloc, numbers, all.as_slice()),
-    }
-}
-
-#[cycle(statements)]
-#[tactic(auto, using(crate::proofs::PlainCode::plain_statements))]
-fn accept_statement(
-    alloc: Global,
-    numbers: &Numbers,
-    accept: &tree::Accept,
-) -> Result<Statement, Memory>
-    ensures { IfOk result (λ y. y ≡ plain.Accept (accept_of numbers.now.names numbers.now.formats accept.now)) }
-{
-    let part = part(alloc, numbers, accept)?;
-    Ok(Statement::Accept { part })
 }
 
 #[cycle(statements)]
