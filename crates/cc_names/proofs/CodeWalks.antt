@@ -11,11 +11,14 @@ use Rattle.cc_grammar.specs.declared.tree.Expression.{Expression}
 use Rattle.cc_grammar.specs.declared.tree.ForHeader.{ForHeader}
 use Rattle.cc_grammar.specs.declared.tree.Identifier.{Identifier}
 use Rattle.cc_grammar.specs.declared.tree.Local.{Local}
+use Rattle.cc_grammar.specs.declared.tree.LocalDeclarator.{LocalDeclarator}
+use Rattle.cc_grammar.specs.declared.tree.LocalDeclarator.TheVariants as local_declarator
+use Rattle.cc_grammar.specs.declared.tree.Transaction.{Transaction}
 use Rattle.cc_grammar.specs.declared.tree.Statement.{Statement, Empty, Block, Expression as ExpressionStatement, If, IfElse, While, Do, For, Break, Continue, Return, Treturn, Delay, Accept as AcceptStatement, Select, Row_of-Entry, end_of-Entry, more_of-Entry, items-the_row-Entry, items_hidden-the_row-Entry-0, Row_of-Alternative, end_of-Alternative, more_of-Alternative, items-the_row-Alternative, items_hidden-the_row-Alternative-3}
 use Rattle.cc_names.specs.declared.mentions.Numbers.{Numbers}
-use Rattle.cc_names.specs.Mentions.{Mention, in_alternatives, in_choice, in_clauses, in_declarators, in_entries, in_entry, in_expression, in_list, in_name, in_names, in_optional_expression, in_statement, in_type}
-use Rattle.cc_names.specs.Seen.{after, in_accept, in_all_alternatives, in_header, in_optional_list}
-use Rattle.cc_names.proofs.Walks.{after-append, after-nothing, after-more}
+use Rattle.cc_names.specs.Mentions.{Mention, in_alternatives, in_choice, in_clauses, in_declarators, in_entries, in_entry, in_expression, in_length, in_list, in_name, in_names, in_optional_expression, in_optional_type, in_parameter_types, in_statement, in_transactions, in_type}
+use Rattle.cc_names.specs.Seen.{after, in_accept, in_all_alternatives, in_declarator, in_header, in_optional_list, in_transaction}
+use Rattle.cc_names.proofs.Walks.{after-after, after-nothing}
 use denote.Hole.Carrier.{hidden}
 
 entries-row : {n : _} (row : Row_of-Entry n) → in_entries row ≡ in_list (items-the_row-Entry n row)
@@ -131,4 +134,14 @@ pub choice-Terminate : (p : Place) → in_choice (Terminate p) ≡ []
 unfolding in_entry
 choice-Terminate p = refl
 
-pub ruleset seen_statements = (after-append, after-nothing, after-more, append-nil, entry-Local, entry-Statement, mentions-Empty, mentions-Block, mentions-Expression, mentions-If, mentions-IfElse, mentions-While, mentions-Do, mentions-For, mentions-Break, mentions-Continue, mentions-Return, mentions-Treturn, mentions-Delay, mentions-Accept, mentions-Select, choice-Accept, choice-Delay, choice-Immediate, choice-Terminate)
+pub ruleset seen_statements = (after-after, after-nothing, append_assoc, append-nil, entry-Local, entry-Statement, mentions-Empty, mentions-Block, mentions-Expression, mentions-If, mentions-IfElse, mentions-While, mentions-Do, mentions-For, mentions-Break, mentions-Continue, mentions-Return, mentions-Treturn, mentions-Delay, mentions-Accept, mentions-Select, choice-Accept, choice-Delay, choice-Immediate, choice-Terminate)
+
+pub declarators-more : (d : LocalDeclarator) (ds : List LocalDeclarator) → in_declarators (d ∷ ds) ≡ in_declarator d ++ in_declarators ds
+declarators-more (local_declarator.Plain x) ds = refl
+declarators-more (local_declarator.Array x n) ds = sym (append_assoc (in_name x) (in_length n) (in_declarators ds))
+declarators-more (local_declarator.Value x e) ds = sym (append_assoc (in_name x) (in_expression e) (in_declarators ds))
+
+pub transactions-more : (d : Transaction) (ds : List Transaction) → in_transactions (d ∷ ds) ≡ in_transaction d ++ in_transactions ds
+transactions-more d ds =
+    sym (append_assoc (in_optional_type d.result) (in_name d.name ++ in_parameter_types d.parameters) (in_transactions ds)
+    ∙ ap (λ xs. in_optional_type d.result ++ xs) (append_assoc (in_name d.name) (in_parameter_types d.parameters) (in_transactions ds)))

@@ -1,6 +1,5 @@
 -- What the set of byte strings says of them, in the words of the numbers of names.
 use Rattle.std.proofs.Common.{◌≡◌, ℕ, zero, suc, ◌+◌, ◌<◌, ◌≤◌, Bool, true, false, cond, not, ◌||◌, ◌&&◌, List, [], ◌∷◌, ◌++◌, Option, None, Some, length, map, position, refl, sym, ap, ◌∙◌, arith, true≢false}
-use Rattle.std.proofs.Math.Option.{some-injective}
 use Rattle.std.proofs.lemmas.Bool.{eq-eqb, eqb-true, ltb-false}
 use Rattle.std.proofs.lemmas.List.{map-append}
 use Rattle.std.proofs.lemmas.List.Recursion.{is_position_or_len}
@@ -26,6 +25,13 @@ same-way [] (y ∷ ys) = refl
 same-way (x ∷ xs) [] = refl
 same-way (x ∷ xs) (y ∷ ys) = λ i. either-way x y i && same-way xs ys i
 
+one-more : (n : ℕ) → suc n ≡ 1 + n
+one-more n = omega arith
+
+abbrev or-zero : Option ℕ → ℕ
+or-zero None = 0
+or-zero (Some n) = n
+
 module _ {X : Type 0} (f : X → List ℕ) (k : List ℕ) where
   mentioned : (ks : List X) → list_any (λ x. pointwise nat_eq k (f x)) ks ≡ is_mentioned (map f ks) k
   mentioned [] = refl
@@ -36,7 +42,7 @@ module _ {X : Type 0} (f : X → List ℕ) (k : List ℕ) where
     where
       by : (b c : Bool) (n : ℕ) → c ≡ b → (if b then 0 else suc n) ≡ cond c 0 (1 + n)
       by true c n e = ap (λ d. cond d 0 (1 + n)) (sym e)
-      by false c n e = ap (λ d. cond d 0 (1 + n)) (sym e)
+      by false c n e = one-more n ∙ ap (λ d. cond d 0 (1 + n)) (sym e)
 
       step : (x : X) (ks : List X) → number_in (map f (x ∷ ks)) k ≡ cond (pointwise nat_eq k (f x)) 0 (1 + number_in (map f ks) k)
       step x ks = by (is_same (f x) k) (pointwise nat_eq k (f x)) (number_in (map f ks) k) (same-way k (f x))
@@ -56,7 +62,7 @@ module _ {X : Type 0} (f : X → List ℕ) where
       n = position_or_len (λ x. pointwise nat_eq k (f x)) ks
 
       by : (b : Bool) → cond b (Some n) None ≡ Some i → i ≡ n
-      by true e = sym (some-injective n i e)
+      by true e = sym (ap or-zero e)
       by false e = absurd (none-some i e)
 
   pub number-missing : (k : List ℕ) (ks : List X) → position (λ x. pointwise nat_eq k (f x)) ks ≡ None → length ks ≡ number_in (map f ks) k

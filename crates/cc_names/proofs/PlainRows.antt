@@ -1,6 +1,6 @@
 -- The plain form of each expression, by the names that the code has.
 use Rattle.std.proofs.Common.{◌≡◌, ℕ, List, [], ◌∷◌, ◌++◌, Option, map, pos, refl, sym, ap, ◌∙◌, append_assoc, append-nil}
-use Rattle.std.specs.Prelude.{Int}
+use Rattle.std.specs.Prelude.{ℤ}
 use Rattle.cc_base.specs.declared.names.Place.{Place}
 use Rattle.cc_base.specs.declared.numbers.NumberType.TheVariants as numeric
 use Rattle.cc_grammar.specs.declared.tree.EqualityStep.{EqualityStep}
@@ -119,7 +119,7 @@ module _ (names : List (List ℕ)) (formats : List (List ℕ)) where
   unfolding plain_expression E.shape-the_row-Expression-0 E.hidden-the_row-Expression-0 hidden
   plain-Postfix e steps suffix = ap (λ xs. suffixed (chain (plain_expression names formats e) xs) suffix) (steps-hidden steps)
 
-  pub plain-Number : (p : Place) (n : Int) (s : Size) → plain_expression names formats (Number p n s) ≡ phrase.Number p n (number_type s)
+  pub plain-Number : (p : Place) (n : ℤ) (s : Size) → plain_expression names formats (Number p n s) ≡ phrase.Number p n (number_type s)
   unfolding plain_expression
   plain-Number p n s = refl
 

@@ -1,5 +1,7 @@
 -- What is mentioned after parts in a row, and what each expression mentions, by the names that the code has.
-use Rattle.std.proofs.Common.{◌≡◌, ℕ, List, [], ◌∷◌, ◌++◌, Option, refl, sym, ap, ◌∙◌, append_assoc, append-nil}
+use Rattle.std.proofs.Common.{◌≡◌, ℕ, ◌+◌, ◌<◌, ◌≤◌, List, [], ◌∷◌, ◌++◌, Option, length, drop, get_or, refl, sym, ap, ◌∙◌, append_assoc, append-nil}
+use Rattle.std.proofs.lemmas.List.{drop_all}
+use Rattle.std.specs.Prelude.{ℤ}
 use Rattle.cc_base.specs.declared.names.Place.{Place}
 use Rattle.cc_grammar.specs.declared.tree.AssignOperator.{AssignOperator}
 use Rattle.cc_grammar.specs.declared.tree.EqualityStep.{EqualityStep}
@@ -15,24 +17,25 @@ use Rattle.cc_grammar.specs.declared.tree.Identifier.{Identifier}
 use Rattle.cc_grammar.specs.declared.tree.Prefix.{Prefix}
 use Rattle.cc_grammar.specs.declared.tree.SuffixOperator.{SuffixOperator}
 use Rattle.cc_lex.specs.declared.token.Size.{Size}
+use Rattle.cc_typed.specs.Sequences.{drop-at}
 use Rattle.cc_names.specs.declared.mentions.Numbers.{Numbers}
 use Rattle.cc_names.specs.Mentions.{Mention, Named, Formatted, formats_among, names_among, in_equality_steps, in_expression, in_expressions, in_name, in_order_steps, in_step, in_steps, in_sum_steps, in_term_steps}
 use Rattle.cc_names.specs.Names.{once}
 use Rattle.cc_names.specs.Seen.{after, in_all_equalities, in_all_expressions, in_all_orders, in_all_steps, in_all_sums, in_all_terms, in_format, with}
 use denote.Hole.Carrier.{hidden}
 
-pub after-append : (n : Numbers) (xs ys : List Mention) → after n (xs ++ ys) ≡ after (after n xs) ys
+pub after-after : (n : Numbers) (xs ys : List Mention) → after (after n xs) ys ≡ after n (xs ++ ys)
 unfolding after
-after-append n [] ys = refl
-after-append n (x ∷ xs) ys = after-append (with n x) xs ys
+after-after n [] ys = refl
+after-after n (x ∷ xs) ys = after-after (with n x) xs ys
 
 pub after-nothing : (n : Numbers) → after n [] ≡ n
 unfolding after
 after-nothing n = refl
 
-pub after-more : (n : Numbers) (m : Mention) (ms : List Mention) → after n (m ∷ ms) ≡ after (with n m) ms
+pub after-one : (n : Numbers) (m : Mention) → after n (m ∷ []) ≡ with n m
 unfolding after
-after-more n m ms = refl
+after-one n m = refl
 
 expressions-row : {n : _} (row : Row_of-Expression n) → in_expressions row ≡ in_all_expressions (items-the_row-Expression n row)
 unfolding in_expression
@@ -126,7 +129,7 @@ pub mentions-Postfix : (e : Expression) (steps : List Step) (suffix : Option Suf
 unfolding in_expression E.shape-the_row-Expression-0 E.hidden-the_row-Expression-0 hidden
 mentions-Postfix e steps suffix = ap (λ xs. in_expression e ++ xs) (steps-hidden steps)
 
-pub mentions-Number : (p : Place) (n : Int) (s : Size) → in_expression (Number p n s) ≡ []
+pub mentions-Number : (p : Place) (n : ℤ) (s : Size) → in_expression (Number p n s) ≡ []
 unfolding in_expression
 mentions-Number p n s = refl
 
@@ -174,6 +177,25 @@ pub step-Index : (e : Expression) → in_step (step.Index e) ≡ in_expression e
 unfolding in_expression E.shape-the_row-Expression-0 E.hidden-the_row-Expression-0 hidden
 step-Index e = refl
 
+drop-item : {X : Type 0} (xs : List X) (i : ℕ) (x : X) → i < length xs → x ≡ get_or xs i x → drop i xs ≡ x ∷ drop (i + 1) xs
+drop-item xs i x lt e = drop-at xs i x lt ∙ ap (λ y. y ∷ drop (i + 1) xs) (sym e)
+
+-- one more part of a list, and its end
+module _ {X : Type 0} (f : X → List Mention) (all : List X → List Mention) where
+  pub seen-more : ((x : X) (xs : List X) → all (x ∷ xs) ≡ f x ++ all xs) → (n m o : Numbers) (xs : List X) (i : ℕ) (x : X) → i < length xs → x ≡ get_or xs i x
+      → m ≡ after n (f x) → after n (all (drop i xs)) ≡ o → after m (all (drop (i + 1) xs)) ≡ o
+  seen-more more n m o xs i x lt e step invariant =
+      let rest = drop (i + 1) xs in
+      ap (λ k. after k (all rest)) step
+      ∙ after-after n (f x) (all rest)
+      ∙ ap (after n) (sym (more x rest))
+      ∙ ap (λ ys. after n (all ys)) (sym (drop-item xs i x lt e))
+      ∙ invariant
+
+  pub seen-end : all [] ≡ [] → (n o : Numbers) (xs : List X) (i : ℕ) → length xs ≤ i → after n (all (drop i xs)) ≡ o → n ≡ o
+  seen-end none n o xs i le invariant =
+      sym (ap (λ ys. after n (all ys)) (drop_all i xs le) ∙ ap (after n) none ∙ after-nothing n) ∙ invariant
+
 pub names-after : (n : Numbers) (ms : List Mention) → (after n ms).names ≡ once n.names (names_among ms)
 unfolding after
 names-after n [] = refl
@@ -188,6 +210,8 @@ formats-after n (Formatted f ∷ ms) = formats-after (with n (Formatted f)) ms
 
 pub ruleset numbered_names = (names-after, formats-after)
 
-pub ruleset seen = (after-append, after-nothing, after-more, append-nil)
+pub ruleset seen_one = (after-one)
 
-pub ruleset seen_expressions = (after-append, after-nothing, after-more, append-nil, mentions-Within, mentions-Store, mentions-Choice, mentions-Disjunction, mentions-Conjunction, mentions-Equality, mentions-Order, mentions-Sum, mentions-Term, mentions-Prefixed, mentions-Postfix, mentions-Number, mentions-Character, mentions-Name, mentions-Call, mentions-Create, mentions-Putchar, mentions-Getchar, mentions-Printf, mentions-Parenthesised, step-Field, step-Call, step-Index)
+pub ruleset seen = (after-after, after-nothing, append_assoc, append-nil)
+
+pub ruleset seen_expressions = (after-after, after-nothing, append_assoc, append-nil, mentions-Within, mentions-Store, mentions-Choice, mentions-Disjunction, mentions-Conjunction, mentions-Equality, mentions-Order, mentions-Sum, mentions-Term, mentions-Prefixed, mentions-Postfix, mentions-Number, mentions-Character, mentions-Name, mentions-Call, mentions-Create, mentions-Putchar, mentions-Getchar, mentions-Printf, mentions-Parenthesised, step-Field, step-Call, step-Index)

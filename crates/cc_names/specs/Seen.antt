@@ -2,19 +2,25 @@
 use Rattle.std.specs.Prelude.{ℕ, List, [], ◌∷◌, ◌++◌, Option, Some, None}
 use Rattle.cc_grammar.specs.declared.tree.Accept.{Accept}
 use Rattle.cc_grammar.specs.declared.tree.Alternative.{Alternative}
+use Rattle.cc_grammar.specs.declared.tree.Constant.{Constant}
+use Rattle.cc_grammar.specs.declared.tree.Declarator.{Declarator}
 use Rattle.cc_grammar.specs.declared.tree.Entry.{Entry}
 use Rattle.cc_grammar.specs.declared.tree.EqualityStep.{EqualityStep}
 use Rattle.cc_grammar.specs.declared.tree.Expression.{Expression}
+use Rattle.cc_grammar.specs.declared.tree.Field.{Field as TheField}
 use Rattle.cc_grammar.specs.declared.tree.ForHeader.{ForHeader}
 use Rattle.cc_grammar.specs.declared.tree.Format.{Format}
 use Rattle.cc_grammar.specs.declared.tree.LocalDeclarator.{LocalDeclarator}
 use Rattle.cc_grammar.specs.declared.tree.LocalDeclarator.TheVariants as local_declarator
 use Rattle.cc_grammar.specs.declared.tree.OrderStep.{OrderStep}
+use Rattle.cc_grammar.specs.declared.tree.Parameter.{Parameter}
 use Rattle.cc_grammar.specs.declared.tree.Step.{Step}
 use Rattle.cc_grammar.specs.declared.tree.SumStep.{SumStep}
 use Rattle.cc_grammar.specs.declared.tree.TermStep.{TermStep}
+use Rattle.cc_grammar.specs.declared.tree.Transaction.{Transaction}
+use Rattle.cc_grammar.specs.declared.tree.TransactionParameter.{TransactionParameter}
 use Rattle.cc_names.specs.declared.mentions.Numbers.{Numbers}
-use Rattle.cc_names.specs.Mentions.{Mention, Named, Formatted, in_choice, in_clauses, in_expression, in_length, in_list, in_name, in_names, in_optional_expression, in_step}
+use Rattle.cc_names.specs.Mentions.{Mention, Named, Formatted, in_choice, in_clauses, in_expression, in_field_names, in_length, in_list, in_name, in_names, in_optional_expression, in_optional_length, in_optional_type, in_parameter_types, in_step, in_type, in_value}
 use Rattle.cc_names.specs.Names.{with_mention}
 
 abbrev pub with : Numbers → Mention → Numbers
@@ -71,3 +77,24 @@ in_accept a = in_name a.name ++ (in_names a.names ++ (in_clauses a.clauses ++ in
 abbrev pub in_all_alternatives : List Alternative → List Mention
 in_all_alternatives [] = []
 in_all_alternatives (a ∷ rest) = in_optional_expression a.guard ++ (in_choice a.choice ++ in_all_alternatives rest)
+
+abbrev pub in_alternative : Alternative → List Mention
+in_alternative a = in_optional_expression a.guard ++ in_choice a.choice
+
+abbrev pub in_field_name : Declarator → List Mention
+in_field_name d = in_name d.name ++ in_optional_length d.length
+
+abbrev pub in_field : TheField → List Mention
+in_field f = in_type f.of ++ in_field_names f.declarators
+
+abbrev pub in_constant : Constant → List Mention
+in_constant c = in_name c.name ++ in_value c.value
+
+abbrev pub in_parameter_type : TransactionParameter → List Mention
+in_parameter_type p = in_type p.of
+
+abbrev pub in_transaction : Transaction → List Mention
+in_transaction d = in_optional_type d.result ++ (in_name d.name ++ in_parameter_types d.parameters)
+
+abbrev pub in_parameter : Parameter → List Mention
+in_parameter p = in_type p.of ++ in_name p.name

@@ -2,7 +2,7 @@
 
 ghost use Rattle.std.specs.Prelude.{◌≡◌, OnOk};
 ghost use Rattle.cc_names.specs.Mentions.{in_choice, in_clauses, in_declarators, in_entry, in_list, in_optional_expression, in_statement};
-ghost use Rattle.cc_names.specs.Seen.{after, in_accept, in_all_alternatives, in_declarator, in_header};
+ghost use Rattle.cc_names.specs.Seen.{after, in_accept, in_all_alternatives, in_alternative, in_declarator, in_header};
 
 use crate::mentions::{Numbers, see_expression, see_length, see_name, see_names, see_type};
 use cc_base::Memory;
@@ -171,10 +171,18 @@ fn see_alternatives<'t>(numbers: &mut Numbers<'t>, all: &'t [Alternative]) -> Re
     ensures { OnOk result (numbers.new ≡ after numbers.old (in_all_alternatives all.now)) }
 {
     for a in all {
-        see_optional_expression(numbers, &a.guard)?;
-        see_choice(numbers, &a.choice)?;
+        see_alternative(numbers, a)?;
     }
     Ok(())
+}
+
+#[cycle(statements)]
+#[tactic(auto, using(crate::proofs::CodeWalks::seen_statements))]
+fn see_alternative<'t>(numbers: &mut Numbers<'t>, a: &'t Alternative) -> Result<(), Memory>
+    ensures { OnOk result (numbers.new ≡ after numbers.old (in_alternative a.now)) }
+{
+    see_optional_expression(numbers, &a.guard)?;
+    see_choice(numbers, &a.choice)
 }
 
 #[cycle(statements)]

@@ -3,7 +3,7 @@
 
 ghost use Rattle.std.specs.Prelude.{◌≡◌, OnOk};
 ghost use Rattle.cc_names.specs.Mentions.{in_constants, in_field_names, in_fields, in_item, in_items, in_optional_transactions, in_parameter_types, in_parameters, in_transactions, in_value};
-ghost use Rattle.cc_names.specs.Seen.{after};
+ghost use Rattle.cc_names.specs.Seen.{after, in_constant, in_field, in_field_name, in_parameter, in_parameter_type, in_transaction};
 
 use crate::code_mentions::see_entries;
 use crate::mentions::{
@@ -17,14 +17,29 @@ use cc_grammar::{
 use sqlite_items::Items;
 
 #[tactic(auto, using(crate::proofs::Walks::seen))]
+fn see_field_name<'t>(numbers: &mut Numbers<'t>, d: &'t Declarator) -> Result<(), Memory>
+    ensures { OnOk result (numbers.new ≡ after numbers.old (in_field_name d.now)) }
+{
+    see_name(numbers, &d.name)?;
+    see_optional_length(numbers, &d.length)
+}
+
+#[tactic(auto, using(crate::proofs::Walks::seen))]
 fn see_field_names<'t>(numbers: &mut Numbers<'t>, all: &'t [Declarator]) -> Result<(), Memory>
     ensures { OnOk result (numbers.new ≡ after numbers.old (in_field_names all.now)) }
 {
     for d in all {
-        see_name(numbers, &d.name)?;
-        see_optional_length(numbers, &d.length)?;
+        see_field_name(numbers, d)?;
     }
     Ok(())
+}
+
+#[tactic(auto, using(crate::proofs::Walks::seen))]
+fn see_field<'t>(numbers: &mut Numbers<'t>, f: &'t Field) -> Result<(), Memory>
+    ensures { OnOk result (numbers.new ≡ after numbers.old (in_field f.now)) }
+{
+    see_type(numbers, &f.of)?;
+    see_field_names(numbers, f.declarators.as_slice())
 }
 
 #[tactic(auto, using(crate::proofs::Walks::seen))]
@@ -32,8 +47,7 @@ fn see_fields<'t>(numbers: &mut Numbers<'t>, all: &'t [Field]) -> Result<(), Mem
     ensures { OnOk result (numbers.new ≡ after numbers.old (in_fields all.now)) }
 {
     for f in all {
-        see_type(numbers, &f.of)?;
-        see_field_names(numbers, f.declarators.as_slice())?;
+        see_field(numbers, f)?;
     }
     Ok(())
 }
@@ -49,14 +63,31 @@ fn see_value<'t>(numbers: &mut Numbers<'t>, value: &'t Option<ConstantValue>) ->
 }
 
 #[tactic(auto, using(crate::proofs::Walks::seen))]
+fn see_constant<'t>(numbers: &mut Numbers<'t>, c: &'t Constant) -> Result<(), Memory>
+    ensures { OnOk result (numbers.new ≡ after numbers.old (in_constant c.now)) }
+{
+    see_name(numbers, &c.name)?;
+    see_value(numbers, &c.value)
+}
+
+#[tactic(auto, using(crate::proofs::Walks::seen))]
 fn see_constants<'t>(numbers: &mut Numbers<'t>, all: &'t [Constant]) -> Result<(), Memory>
     ensures { OnOk result (numbers.new ≡ after numbers.old (in_constants all.now)) }
 {
     for c in all {
-        see_name(numbers, &c.name)?;
-        see_value(numbers, &c.value)?;
+        see_constant(numbers, c)?;
     }
     Ok(())
+}
+
+#[tactic(auto, using(crate::proofs::Walks::seen))]
+fn see_parameter_type<'t>(
+    numbers: &mut Numbers<'t>,
+    p: &'t TransactionParameter,
+) -> Result<(), Memory>
+    ensures { OnOk result (numbers.new ≡ after numbers.old (in_parameter_type p.now)) }
+{
+    see_type(numbers, &p.of)
 }
 
 #[tactic(auto, using(crate::proofs::Walks::seen))]
@@ -67,9 +98,18 @@ fn see_parameter_types<'t>(
     ensures { OnOk result (numbers.new ≡ after numbers.old (in_parameter_types all.now)) }
 {
     for p in all {
-        see_type(numbers, &p.of)?;
+        see_parameter_type(numbers, p)?;
     }
     Ok(())
+}
+
+#[tactic(auto, using(crate::proofs::Walks::seen))]
+fn see_transaction<'t>(numbers: &mut Numbers<'t>, d: &'t Transaction) -> Result<(), Memory>
+    ensures { OnOk result (numbers.new ≡ after numbers.old (in_transaction d.now)) }
+{
+    see_optional_type(numbers, &d.result)?;
+    see_name(numbers, &d.name)?;
+    see_parameter_types(numbers, d.parameters.as_slice())
 }
 
 #[tactic(auto, using(crate::proofs::Walks::seen))]
@@ -77,9 +117,7 @@ fn see_transactions<'t>(numbers: &mut Numbers<'t>, all: &'t [Transaction]) -> Re
     ensures { OnOk result (numbers.new ≡ after numbers.old (in_transactions all.now)) }
 {
     for d in all {
-        see_optional_type(numbers, &d.result)?;
-        see_name(numbers, &d.name)?;
-        see_parameter_types(numbers, d.parameters.as_slice())?;
+        see_transaction(numbers, d)?;
     }
     Ok(())
 }
@@ -98,12 +136,19 @@ fn see_optional_transactions<'t>(
 }
 
 #[tactic(auto, using(crate::proofs::Walks::seen))]
+fn see_parameter<'t>(numbers: &mut Numbers<'t>, p: &'t Parameter) -> Result<(), Memory>
+    ensures { OnOk result (numbers.new ≡ after numbers.old (in_parameter p.now)) }
+{
+    see_type(numbers, &p.of)?;
+    see_name(numbers, &p.name)
+}
+
+#[tactic(auto, using(crate::proofs::Walks::seen))]
 fn see_parameters<'t>(numbers: &mut Numbers<'t>, all: &'t [Parameter]) -> Result<(), Memory>
     ensures { OnOk result (numbers.new ≡ after numbers.old (in_parameters all.now)) }
 {
     for p in all {
-        see_type(numbers, &p.of)?;
-        see_name(numbers, &p.name)?;
+        see_parameter(numbers, p)?;
     }
     Ok(())
 }

@@ -18,7 +18,7 @@ pub(crate) struct Numbers<'t> {
     pub(crate) formats: Strings<'t>,
 }
 
-#[tactic(auto, using(crate::proofs::Walks::seen))]
+#[tactic(auto, using(crate::proofs::Walks::seen_one))]
 pub(crate) fn see_name<'t>(numbers: &mut Numbers<'t>, x: &'t Identifier) -> Result<(), Memory>
     ensures { OnOk result (numbers.new ≡ after numbers.old (in_name x.now)) }
 {
@@ -35,7 +35,7 @@ pub(crate) fn see_names<'t>(numbers: &mut Numbers<'t>, xs: &'t [Identifier]) -> 
     Ok(())
 }
 
-#[tactic(auto, using(crate::proofs::Walks::seen))]
+#[tactic(auto, using(crate::proofs::Walks::seen_one))]
 fn see_format<'t>(numbers: &mut Numbers<'t>, format: &'t Format) -> Result<(), Memory>
     ensures { OnOk result (numbers.new ≡ after numbers.old (in_format format.now)) }
 {

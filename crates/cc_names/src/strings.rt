@@ -45,11 +45,16 @@ impl<'t> Strings<'t> {
     pub(crate) fn number(&self, string: &[u8]) -> Result<u32, Memory>
         ensures { IfOk result (λ n. n ≡ number_in self.now string.now) }
     {
-        let at = match self.set.get_index_of(&string) {
+        short(self.found(string))
+    }
+
+    fn found(&self, string: &[u8]) -> usize
+        ensures { result ≡ number_in self.now string.now }
+    {
+        match self.set.get_index_of(&string) {
             Some(at) => at,
             None => self.set.len(),
-        };
-        short(at)
+        }
     }
 
     /// How many there are. A number that 32 bits don't hold is out of memory.
