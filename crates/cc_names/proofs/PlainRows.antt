@@ -167,4 +167,4 @@ module _ (names : List (List ℕ)) (formats : List (List ℕ)) where
   unfolding plain_expression E.shape-the_row-Expression-0 E.hidden-the_row-Expression-0 hidden
   step-Index e = refl
 
-pub ruleset plain_expressions = (plain-Within, plain-Store, plain-Choice, plain-Disjunction, plain-Conjunction, plain-Equality, plain-Order, plain-Sum, plain-Term, plain-Prefixed, plain-Postfix, plain-Number, plain-Character, plain-Name, plain-Call, plain-Create, plain-Putchar, plain-Getchar, plain-Printf, plain-Parenthesised, step-Field, step-Call, step-Index)
+pub ruleset plain_phrases = (plain-Within, plain-Store, plain-Choice, plain-Disjunction, plain-Conjunction, plain-Equality, plain-Order, plain-Sum, plain-Term, plain-Prefixed, plain-Postfix, plain-Number, plain-Character, plain-Name, plain-Call, plain-Create, plain-Putchar, plain-Getchar, plain-Printf, plain-Parenthesised, step-Field, step-Call, step-Index)

@@ -164,9 +164,67 @@ fn suffixed(target: Boxed<Phrase>, suffix: Option<SuffixOperator>) -> Phrase
     }
 }
 
+fn chained(
+    alloc: Global,
+    first: Boxed<Phrase>,
+    steps: Items<Step>,
+    suffix: Option<SuffixOperator>,
+) -> Result<Phrase, Memory>
+    ensures { IfOk result (λ p. p ≡ spec.suffixed (spec.chain first steps) suffix) }
+{
+    let target = chain(alloc, first, steps)?;
+    Ok(suffixed(target, suffix))
+}
+
+fn call_of(numbers: &Numbers, x: &tree::Identifier, args: Items<Phrase>) -> Result<Phrase, Memory>
+    ensures { IfOk result (λ p. p ≡ plain.Call (spec.identifier numbers.now.names numbers.now.formats x.now) args) }
+{
+    let name = identifier(numbers, x)?;
+    Ok(Phrase::Call { name, args })
+}
+
+fn create_of(
+    numbers: &Numbers,
+    place: Place,
+    x: &tree::Identifier,
+    args: Items<Phrase>,
+) -> Result<Phrase, Memory>
+    ensures { IfOk result (λ p. p ≡ plain.Create place (spec.identifier numbers.now.names numbers.now.formats x.now) args) }
+{
+    let name = identifier(numbers, x)?;
+    Ok(Phrase::Create { place, name, args })
+}
+
+fn print_of(
+    numbers: &Numbers,
+    place: Place,
+    f: &tree::Format,
+    args: Items<Phrase>,
+) -> Result<Phrase, Memory>
+    ensures { IfOk result (λ p. p ≡ plain.PrintFormat place (spec.format numbers.now.names numbers.now.formats f.now) args) }
+{
+    let format = format(numbers, f)?;
+    Ok(Phrase::PrintFormat {
+        place,
+        format,
+        args,
+    })
+}
+
+fn step_call_of(
+    numbers: &Numbers,
+    x: &tree::Identifier,
+    args: Items<Phrase>,
+) -> Result<Step, Memory>
+    ensures { IfOk result (λ p. p ≡ plain_step.Call (spec.identifier numbers.now.names numbers.now.formats x.now) args) }
+{
+    let name = identifier(numbers, x)?;
+    Ok(Step::Call { name, args })
+}
+
 /// The plain expression of an expression.
 #[cycle(phrases)]
-#[tactic(auto, using(crate::proofs::PlainRows::plain_expressions))]
+#[tactic(auto, using(crate::proofs::PlainRows::plain_phrases))]
 pub(crate) fn phrase(alloc: Global, numbers: &Numbers, e: &Expression) -> Result<Phrase, Memory>
     ensures { IfOk result (λ p. p ≡ spec.plain_expression numbers.now.names numbers.now.formats e.now) }
 {
@@ -176,56 +234,79 @@ pub(crate) fn phrase(alloc: Global, numbers: &Numbers, e: &Expression) -> Result
             wait,
             call,
             otherwise,
-        } => within(
-            alloc,
-            numbers,
-            *place,
-            wait.get(),
-            call.get(),
-            otherwise.get(),
-        ),
+        } => {
+            let wait = boxed(alloc, numbers, wait.get())?;
+            let middle = boxed(alloc, numbers, call.get())?;
+            let otherwise = boxed(alloc, numbers, otherwise.get())?;
+            Ok(Phrase::Within {
+                place: *place,
+                wait,
+                middle,
+                otherwise,
+            })
+        }
         Expression::Store {
             target,
             operator,
             value,
-        } => store(alloc, numbers, target.get(), *operator, value.get()),
+        } => {
+            let target = boxed(alloc, numbers, target.get())?;
+            let value = boxed(alloc, numbers, value.get())?;
+            Ok(storing(target, *operator, value))
+        }
         Expression::Choice {
             condition,
             then,
             otherwise,
-        } => choose(alloc, numbers, condition.get(), then.get(), otherwise.get()),
-        Expression::Disjunction { first, more } => either(
-            alloc,
-            numbers,
-            first.get(),
-            more.as_slice(),
-        ),
-        Expression::Conjunction { first, more } => both(
-            alloc,
-            numbers,
-            first.get(),
-            more.as_slice(),
-        ),
-        Expression::Equality { first, more } => equality(
-            alloc,
-            numbers,
-            first.get(),
-            more.as_slice(),
-        ),
-        Expression::Order { first, more } => order(alloc, numbers, first.get(), more.as_slice()),
-        Expression::Sum { first, more } => sum(alloc, numbers, first.get(), more.as_slice()),
-        Expression::Term { first, more } => term(alloc, numbers, first.get(), more.as_slice()),
-        Expression::Prefixed { prefix, operand } => prefixed(
-            alloc,
-            numbers,
-            *prefix,
-            operand.get(),
-        ),
+        } => {
+            let condition = boxed(alloc, numbers, condition.get())?;
+            let yes = boxed(alloc, numbers, then.get())?;
+            let no = boxed(alloc, numbers, otherwise.get())?;
+            Ok(Phrase::Choose { condition, yes, no })
+        }
+        Expression::Disjunction { first, more } => {
+            let first = boxed(alloc, numbers, first.get())?;
+            let rest = phrases(alloc, numbers, more.as_slice())?;
+            Ok(Phrase::Either { first, rest })
+        }
+        Expression::Conjunction { first, more } => {
+            let first = boxed(alloc, numbers, first.get())?;
+            let rest = phrases(alloc, numbers, more.as_slice())?;
+            Ok(Phrase::Both { first, rest })
+        }
+        Expression::Equality { first, more } => {
+            let first = boxed(alloc, numbers, first.get())?;
+            let rest = equalities(alloc, numbers, more.as_slice())?;
+            Ok(Phrase::Compare { first, rest })
+        }
+        Expression::Order { first, more } => {
+            let first = boxed(alloc, numbers, first.get())?;
+            let rest = orders(alloc, numbers, more.as_slice())?;
+            Ok(Phrase::Compare { first, rest })
+        }
+        Expression::Sum { first, more } => {
+            let first = boxed(alloc, numbers, first.get())?;
+            let rest = sums(alloc, numbers, more.as_slice())?;
+            Ok(Phrase::Arithmetic { first, rest })
+        }
+        Expression::Term { first, more } => {
+            let first = boxed(alloc, numbers, first.get())?;
+            let rest = terms(alloc, numbers, more.as_slice())?;
+            Ok(Phrase::Arithmetic { first, rest })
+        }
+        Expression::Prefixed { prefix, operand } => {
+            let operand = boxed(alloc, numbers, operand.get())?;
+            Ok(prefixed_by(prefix.place, prefix.operator, operand))
+        }
         Expression::Postfix {
             first,
             steps,
             suffix,
-        } => postfix(alloc, numbers, first.get(), steps.as_slice(), *suffix),
+        } => {
+            let first = boxed(alloc, numbers, first.get())?;
+            let steps = plain_steps(alloc, numbers, steps.as_slice())?;
+            chained(alloc, first, steps, *suffix)
+        }
         Expression::Number { place, value, size } => Ok(Phrase::Number {
             place: *place,
             value: *value,
@@ -237,211 +318,43 @@ pub(crate) fn phrase(alloc: Global, numbers: &Numbers, e: &Expression) -> Result
             number_type: NumberType::Int,
         }),
         Expression::Name(x) => name(numbers, x),
-        Expression::Call(x, args) => call(alloc, numbers, x.get(), args.as_slice()),
-        Expression::Create(place, x, args) => create(
-            alloc,
-            numbers,
-            *place,
-            x.get(),
-            args.as_slice(),
-        ),
-        Expression::Putchar(place, e) => put_char(alloc, numbers, *place, e.get()),
+        Expression::Call(x, args) => {
+            let args = phrases(alloc, numbers, args.as_slice())?;
+            call_of(numbers, x.get(), args)
+        }
+        Expression::Create(place, x, args) => {
+            let args = phrases(alloc, numbers, args.as_slice())?;
+            create_of(numbers, *place, x.get(), args)
+        }
+        Expression::Putchar(place, e) => {
+            let value = boxed(alloc, numbers, e.get())?;
+            Ok(Phrase::PutChar {
+                place: *place,
+                value,
+            })
+        }
         Expression::Getchar(place) => Ok(Phrase::GetChar(*place)),
-        Expression::Printf(place, f, args) => print_format(
-            alloc,
-            numbers,
-            *place,
-            f.get(),
-            args.as_slice(),
-        ),
-        Expression::Parenthesised(place, e) => parenthesized(alloc, numbers, *place, e.get()),
+        Expression::Printf(place, f, args) => {
+            let args = phrases(alloc, numbers, args.as_slice())?;
+            print_of(numbers, *place, f.get(), args)
+        }
+        Expression::Parenthesised(place, e) => {
+            let operand = boxed(alloc, numbers, e.get())?;
+            Ok(Phrase::Parenthesized {
+                place: *place,
+                operand,
+            })
+        }
     }
 }
 
 #[cycle(phrases)]
-#[tactic(auto, using(crate::proofs::PlainRows::plain_expressions))]
+#[tactic(auto, using(crate::proofs::PlainRows::plain_phrases))]
 fn boxed(alloc: Global, numbers: &Numbers, e: &Expression) -> Result<Boxed<Phrase>, Memory>
     ensures { IfOk result (λ p. p ≡ spec.plain_expression numbers.now.names numbers.now.formats e.now) }
 {
     let p = phrase(alloc, numbers, e)?;
     Ok(Boxed::new(alloc, p)?)
-}
-
-#[cycle(phrases)]
-#[tactic(auto, using(crate::proofs::PlainRows::plain_expressions))]
-fn within(
-    alloc: Global,
-    numbers: &Numbers,
-    place: Place,
-    wait: &Expression,
-    call: &Expression,
-    otherwise: &Expression,
-) -> Result<Phrase, Memory>
-    ensures { IfOk result (λ p. p ≡ plain.Within place (spec.plain_expression numbers.now.names numbers.now.formats wait.now) (spec.plain_expression numbers.now.names numbers.now.formats call.now) (spec.plain_expression numbers.now.names numbers.now.formats otherwise.now)) }
-{
-    let wait = boxed(alloc, numbers, wait)?;
-    let middle = boxed(alloc, numbers, call)?;
-    let otherwise = boxed(alloc, numbers, otherwise)?;
-    Ok(Phrase::Within {
-        place,
-        wait,
-        middle,
-        otherwise,
-    })
-}
-
-#[cycle(phrases)]
-#[tactic(auto, using(crate::proofs::PlainRows::plain_expressions))]
-fn store(
-    alloc: Global,
-    numbers: &Numbers,
-    target: &Expression,
-    operator: AssignOperator,
-    value: &Expression,
-) -> Result<Phrase, Memory>
-    ensures { IfOk result (λ p. p ≡ spec.storing (spec.plain_expression numbers.now.names numbers.now.formats target.now) operator (spec.plain_expression numbers.now.names numbers.now.formats value.now)) }
-{
-    let target = boxed(alloc, numbers, target)?;
-    let value = boxed(alloc, numbers, value)?;
-    Ok(storing(target, operator, value))
-}
-
-#[cycle(phrases)]
-#[tactic(auto, using(crate::proofs::PlainRows::plain_expressions))]
-fn choose(
-    alloc: Global,
-    numbers: &Numbers,
-    condition: &Expression,
-    yes: &Expression,
-    no: &Expression,
-) -> Result<Phrase, Memory>
-    ensures { IfOk result (λ p. p ≡ plain.Choose (spec.plain_expression numbers.now.names numbers.now.formats condition.now) (spec.plain_expression numbers.now.names numbers.now.formats yes.now) (spec.plain_expression numbers.now.names numbers.now.formats no.now)) }
-{
-    let condition = boxed(alloc, numbers, condition)?;
-    let yes = boxed(alloc, numbers, yes)?;
-    let no = boxed(alloc, numbers, no)?;
-    Ok(Phrase::Choose { condition, yes, no })
-}
-
-#[cycle(phrases)]
-#[tactic(auto, using(crate::proofs::PlainRows::plain_expressions))]
-fn either(
-    alloc: Global,
-    numbers: &Numbers,
-    first: &Expression,
-    more: &[Expression],
-) -> Result<Phrase, Memory>
-    ensures { IfOk result (λ p. p ≡ plain.Either (spec.plain_expression numbers.now.names numbers.now.formats first.now) (map (spec.plain_expression numbers.now.names numbers.now.formats) more.now)) }
-{
-    let first = boxed(alloc, numbers, first)?;
-    let rest = phrases(alloc, numbers, more)?;
-    Ok(Phrase::Either { first, rest })
-}
-
-#[cycle(phrases)]
-#[tactic(auto, using(crate::proofs::PlainRows::plain_expressions))]
-fn both(
-    alloc: Global,
-    numbers: &Numbers,
-    first: &Expression,
-    more: &[Expression],
-) -> Result<Phrase, Memory>
-    ensures { IfOk result (λ p. p ≡ plain.Both (spec.plain_expression numbers.now.names numbers.now.formats first.now) (map (spec.plain_expression numbers.now.names numbers.now.formats) more.now)) }
-{
-    let first = boxed(alloc, numbers, first)?;
-    let rest = phrases(alloc, numbers, more)?;
-    Ok(Phrase::Both { first, rest })
-}
-
-#[cycle(phrases)]
-#[tactic(auto, using(crate::proofs::PlainRows::plain_expressions))]
-fn equality(
-    alloc: Global,
-    numbers: &Numbers,
-    first: &Expression,
-    more: &[EqualityStep],
-) -> Result<Phrase, Memory>
-    ensures { IfOk result (λ p. p ≡ plain.Compare (spec.plain_expression numbers.now.names numbers.now.formats first.now) (map (equality_step numbers.now.names numbers.now.formats) more.now)) }
-{
-    let first = boxed(alloc, numbers, first)?;
-    let rest = equalities(alloc, numbers, more)?;
-    Ok(Phrase::Compare { first, rest })
-}
-
-#[cycle(phrases)]
-#[tactic(auto, using(crate::proofs::PlainRows::plain_expressions))]
-fn order(
-    alloc: Global,
-    numbers: &Numbers,
-    first: &Expression,
-    more: &[OrderStep],
-) -> Result<Phrase, Memory>
-    ensures { IfOk result (λ p. p ≡ plain.Compare (spec.plain_expression numbers.now.names numbers.now.formats first.now) (map (order_step numbers.now.names numbers.now.formats) more.now)) }
-{
-    let first = boxed(alloc, numbers, first)?;
-    let rest = orders(alloc, numbers, more)?;
-    Ok(Phrase::Compare { first, rest })
-}
-
-#[cycle(phrases)]
-#[tactic(auto, using(crate::proofs::PlainRows::plain_expressions))]
-fn sum(
-    alloc: Global,
-    numbers: &Numbers,
-    first: &Expression,
-    more: &[SumStep],
-) -> Result<Phrase, Memory>
-    ensures { IfOk result (λ p. p ≡ plain.Arithmetic (spec.plain_expression numbers.now.names numbers.now.formats first.now) (map (sum_step numbers.now.names numbers.now.formats) more.now)) }
-{
-    let first = boxed(alloc, numbers, first)?;
-    let rest = sums(alloc, numbers, more)?;
-    Ok(Phrase::Arithmetic { first, rest })
-}
-
-#[cycle(phrases)]
-#[tactic(auto, using(crate::proofs::PlainRows::plain_expressions))]
-fn term(
-    alloc: Global,
-    numbers: &Numbers,
-    first: &Expression,
-    more: &[TermStep],
-) -> Result<Phrase, Memory>
-    ensures { IfOk result (λ p. p ≡ plain.Arithmetic (spec.plain_expression numbers.now.names numbers.now.formats first.now) (map (term_step numbers.now.names numbers.now.formats) more.now)) }
-{
-    let first = boxed(alloc, numbers, first)?;
-    let rest = terms(alloc, numbers, more)?;
-    Ok(Phrase::Arithmetic { first, rest })
-}
-
-#[cycle(phrases)]
-#[tactic(auto, using(crate::proofs::PlainRows::plain_expressions))]
-fn prefixed(
-    alloc: Global,
-    numbers: &Numbers,
-    prefix: Prefix,
-    operand: &Expression,
-) -> Result<Phrase, Memory>
-    ensures { IfOk result (λ p. p ≡ spec.prefixed_by prefix.place prefix.operator (spec.plain_expression numbers.now.names numbers.now.formats operand.now)) }
-{
-    let operand = boxed(alloc, numbers, operand)?;
-    Ok(prefixed_by(prefix.place, prefix.operator, operand))
-}
-
-#[cycle(phrases)]
-#[tactic(auto, using(crate::proofs::PlainRows::plain_expressions))]
-fn postfix(
-    alloc: Global,
-    numbers: &Numbers,
-    first: &Expression,
-    steps: &[tree::Step],
-    suffix: Option<SuffixOperator>,
-) -> Result<Phrase, Memory>
-    ensures { IfOk result (λ p. p ≡ spec.suffixed (spec.chain (spec.plain_expression numbers.now.names numbers.now.formats first.now) (map (spec.plain_step numbers.now.names numbers.now.formats) steps.now)) suffix) }
-{
-    let first = boxed(alloc, numbers, first)?;
-    let steps = plain_steps(alloc, numbers, steps)?;
-    let chained = chain(alloc, first, steps)?;
-    Ok(suffixed(chained, suffix))
 }
 
 fn name(numbers: &Numbers, x: &tree::Identifier) -> Result<Phrase, Memory>
@@ -451,86 +364,7 @@ fn name(numbers: &Numbers, x: &tree::Identifier) -> Result<Phrase, Memory>
 }
 
 #[cycle(phrases)]
-#[tactic(auto, using(crate::proofs::PlainRows::plain_expressions))]
-fn call(
-    alloc: Global,
-    numbers: &Numbers,
-    x: &tree::Identifier,
-    args: &[Expression],
-) -> Result<Phrase, Memory>
-    ensures { IfOk result (λ p. p ≡ plain.Call (spec.identifier numbers.now.names numbers.now.formats x.now) (map (spec.plain_expression numbers.now.names numbers.now.formats) args.now)) }
-{
-    let name = identifier(numbers, x)?;
-    let args = phrases(alloc, numbers, args)?;
-    Ok(Phrase::Call { name, args })
-}
-
-#[cycle(phrases)]
-#[tactic(auto, using(crate::proofs::PlainRows::plain_expressions))]
-fn create(
-    alloc: Global,
-    numbers: &Numbers,
-    place: Place,
-    x: &tree::Identifier,
-    args: &[Expression],
-) -> Result<Phrase, Memory>
-    ensures { IfOk result (λ p. p ≡ plain.Create place (spec.identifier numbers.now.names numbers.now.formats x.now) (map (spec.plain_expression numbers.now.names numbers.now.formats) args.now)) }
-{
-    let name = identifier(numbers, x)?;
-    let args = phrases(alloc, numbers, args)?;
-    Ok(Phrase::Create { place, name, args })
-}
-
-#[cycle(phrases)]
-#[tactic(auto, using(crate::proofs::PlainRows::plain_expressions))]
-fn put_char(
-    alloc: Global,
-    numbers: &Numbers,
-    place: Place,
-    e: &Expression,
-) -> Result<Phrase, Memory>
-    ensures { IfOk result (λ p. p ≡ plain.PutChar place (spec.plain_expression numbers.now.names numbers.now.formats e.now)) }
-{
-    let value = boxed(alloc, numbers, e)?;
-    Ok(Phrase::PutChar { place, value })
-}
-
-#[cycle(phrases)]
-#[tactic(auto, using(crate::proofs::PlainRows::plain_expressions))]
-fn print_format(
-    alloc: Global,
-    numbers: &Numbers,
-    place: Place,
-    f: &tree::Format,
-    args: &[Expression],
-) -> Result<Phrase, Memory>
-    ensures { IfOk result (λ p. p ≡ plain.PrintFormat place (spec.format numbers.now.names numbers.now.formats f.now) (map (spec.plain_expression numbers.now.names numbers.now.formats) args.now)) }
-{
-    let format = format(numbers, f)?;
-    let args = phrases(alloc, numbers, args)?;
-    Ok(Phrase::PrintFormat {
-        place,
-        format,
-        args,
-    })
-}
-
-#[cycle(phrases)]
-#[tactic(auto, using(crate::proofs::PlainRows::plain_expressions))]
-fn parenthesized(
-    alloc: Global,
-    numbers: &Numbers,
-    place: Place,
-    e: &Expression,
-) -> Result<Phrase, Memory>
-    ensures { IfOk result (λ p. p ≡ plain.Parenthesized place (spec.plain_expression numbers.now.names numbers.now.formats e.now)) }
-{
-    let operand = boxed(alloc, numbers, e)?;
-    Ok(Phrase::Parenthesized { place, operand })
-}
-
-#[cycle(phrases)]
-#[tactic(auto, using(crate::proofs::PlainRows::plain_expressions))]
+#[tactic(auto, using(crate::proofs::PlainRows::plain_phrases))]
 fn phrases(alloc: Global, numbers: &Numbers, all: &[Expression]) -> Result<Items<Phrase>, Memory>
     ensures { IfOk result (λ p. p ≡ map (spec.plain_expression numbers.now.names numbers.now.formats) all.now) }
 {
@@ -543,7 +377,7 @@ fn phrases(alloc: Global, numbers: &Numbers, all: &[Expression]) -> Result<Items
 }
 
 #[cycle(phrases)]
-#[tactic(auto, using(crate::proofs::PlainRows::plain_expressions))]
+#[tactic(auto, using(crate::proofs::PlainRows::plain_phrases))]
 fn equality_step(alloc: Global, numbers: &Numbers, x: &EqualityStep) -> Result<Compared, Memory>
     ensures { IfOk result (λ p. p ≡ equality_step numbers.now.names numbers.now.formats x.now) }
 {
@@ -555,7 +389,7 @@ fn equality_step(alloc: Global, numbers: &Numbers, x: &EqualityStep) -> Result<C
 }
 
 #[cycle(phrases)]
-#[tactic(auto, using(crate::proofs::PlainRows::plain_expressions))]
+#[tactic(auto, using(crate::proofs::PlainRows::plain_phrases))]
 fn order_step(alloc: Global, numbers: &Numbers, x: &OrderStep) -> Result<Compared, Memory>
     ensures { IfOk result (λ p. p ≡ order_step numbers.now.names numbers.now.formats x.now) }
 {
@@ -567,7 +401,7 @@ fn order_step(alloc: Global, numbers: &Numbers, x: &OrderStep) -> Result<Compare
 }
 
 #[cycle(phrases)]
-#[tactic(auto, using(crate::proofs::PlainRows::plain_expressions))]
+#[tactic(auto, using(crate::proofs::PlainRows::plain_phrases))]
 fn sum_step(alloc: Global, numbers: &Numbers, x: &SumStep) -> Result<Operation, Memory>
     ensures { IfOk result (λ p. p ≡ sum_step numbers.now.names numbers.now.formats x.now) }
 {
@@ -579,7 +413,7 @@ fn sum_step(alloc: Global, numbers: &Numbers, x: &SumStep) -> Result<Operation, 
 }
 
 #[cycle(phrases)]
-#[tactic(auto, using(crate::proofs::PlainRows::plain_expressions))]
+#[tactic(auto, using(crate::proofs::PlainRows::plain_phrases))]
 fn term_step(alloc: Global, numbers: &Numbers, x: &TermStep) -> Result<Operation, Memory>
     ensures { IfOk result (λ p. p ≡ term_step numbers.now.names numbers.now.formats x.now) }
 {
@@ -591,7 +425,7 @@ fn term_step(alloc: Global, numbers: &Numbers, x: &TermStep) -> Result<Operation
 }
 
 #[cycle(phrases)]
-#[tactic(auto, using(crate::proofs::PlainRows::plain_expressions))]
+#[tactic(auto, using(crate::proofs::PlainRows::plain_phrases))]
 fn equalities(
     alloc: Global,
     numbers: &Numbers,
@@ -608,7 +442,7 @@ fn equalities(
 }
 
 #[cycle(phrases)]
-#[tactic(auto, using(crate::proofs::PlainRows::plain_expressions))]
+#[tactic(auto, using(crate::proofs::PlainRows::plain_phrases))]
 fn orders(alloc: Global, numbers: &Numbers, all: &[OrderStep]) -> Result<Items<Compared>, Memory>
     ensures { IfOk result (λ p. p ≡ map (order_step numbers.now.names numbers.now.formats) all.now) }
 {
@@ -621,7 +455,7 @@ fn orders(alloc: Global, numbers: &Numbers, all: &[OrderStep]) -> Result<Items<C
 }
 
 #[cycle(phrases)]
-#[tactic(auto, using(crate::proofs::PlainRows::plain_expressions))]
+#[tactic(auto, using(crate::proofs::PlainRows::plain_phrases))]
 fn sums(alloc: Global, numbers: &Numbers, all: &[SumStep]) -> Result<Items<Operation>, Memory>
     ensures { IfOk result (λ p. p ≡ map (sum_step numbers.now.names numbers.now.formats) all.now) }
 {
@@ -634,7 +468,7 @@ fn sums(alloc: Global, numbers: &Numbers, all: &[SumStep]) -> Result<Items<Opera
 }
 
 #[cycle(phrases)]
-#[tactic(auto, using(crate::proofs::PlainRows::plain_expressions))]
+#[tactic(auto, using(crate::proofs::PlainRows::plain_phrases))]
 fn terms(alloc: Global, numbers: &Numbers, all: &[TermStep]) -> Result<Items<Operation>, Memory>
     ensures { IfOk result (λ p. p ≡ map (term_step numbers.now.names numbers.now.formats) all.now) }
 {
@@ -647,7 +481,7 @@ fn terms(alloc: Global, numbers: &Numbers, all: &[TermStep]) -> Result<Items<Ope
 }
 
 #[cycle(phrases)]
-#[tactic(auto, using(crate::proofs::PlainRows::plain_expressions))]
+#[tactic(auto, using(crate::proofs::PlainRows::plain_phrases))]
 fn plain_steps(alloc: Global, numbers: &Numbers, all: &[tree::Step]) -> Result<Items<Step>, Memory>
     ensures { IfOk result (λ p. p ≡ map (spec.plain_step numbers.now.names numbers.now.formats) all.now) }
 {
@@ -660,31 +494,19 @@ fn plain_steps(alloc: Global, numbers: &Numbers, all: &[tree::Step]) -> Result<I
 }
 
 #[cycle(phrases)]
-#[tactic(auto, using(crate::proofs::PlainRows::plain_expressions))]
+#[tactic(auto, using(crate::proofs::PlainRows::plain_phrases))]
 fn plain_step(alloc: Global, numbers: &Numbers, x: &tree::Step) -> Result<Step, Memory>
     ensures { IfOk result (λ p. p ≡ spec.plain_step numbers.now.names numbers.now.formats x.now) }
 {
     match x {
         tree::Step::Field(x) => Ok(Step::Field(identifier(numbers, x)?)),
-        tree::Step::Call(x, args) => step_call(alloc, numbers, x.get(), args.as_slice()),
+        tree::Step::Call(x, args) => {
+            let args = phrases(alloc, numbers, args.as_slice())?;
+            step_call_of(numbers, x.get(), args)
+        }
         tree::Step::Index(e) => {
             let index = boxed(alloc, numbers, e.get())?;
             Ok(Step::Index(index))
         }
     }
-}
-
-#[cycle(phrases)]
-#[tactic(auto, using(crate::proofs::PlainRows::plain_expressions))]
-fn step_call(
-    alloc: Global,
-    numbers: &Numbers,
-    x: &tree::Identifier,
-    args: &[Expression],
-) -> Result<Step, Memory>
-    ensures { IfOk result (λ p. p ≡ plain_step.Call (spec.identifier numbers.now.names numbers.now.formats x.now) (map (spec.plain_expression numbers.now.names numbers.now.formats) args.now)) }
-{
-    let name = identifier(numbers, x)?;
-    let args = phrases(alloc, numbers, args)?;
-    Ok(Step::Call { name, args })
 }

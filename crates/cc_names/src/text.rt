@@ -307,6 +307,7 @@ fn numbers_of<'t>(alloc: Global, tree: &'t Tree) -> Result<Numbers<'t>, Memory>
 
 /// The plain tree of a text: names and formats have numbers, rows of operators are of two kinds, and each declared name has its type.
 /// A text of more than 2^32 - 1 names is out of memory.
+#[tactic(auto, unfolding(crate::specs::Plains::plain))]
 pub fn plain(alloc: Global, tree: &Tree) -> Result<Plain, Memory>
     ensures plain { IfOk result (λ t. t ≡ spec.plain tree.now) }
 {
