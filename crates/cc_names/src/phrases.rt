@@ -11,7 +11,7 @@ use cc_base::{Comparison, Memory, NumberType, Operator, Place};
 use cc_faults::{Compared, Format, Identifier, Operation, Phrase, Step, StepWord};
 use cc_grammar as tree;
 use cc_grammar::{
-    AssignOperator, EqualityOperator, EqualityStep, Expression, OrderOperator, OrderStep, Prefix,
+    AssignOperator, EqualityOperator, EqualityStep, Expression, OrderOperator, OrderStep,
     PrefixOperator, SuffixOperator, SumOperator, SumStep, TermOperator, TermStep,
 };
 use cc_lex::Size;
