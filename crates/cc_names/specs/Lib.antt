@@ -1,4 +1,6 @@
 pub mod Names
 pub mod Mentions
+pub mod Seen
 pub mod Plains
+pub mod PlainLists
 pub mod Laws

@@ -1,0 +1,6 @@
+use Rattle.std.proofs.Common.{◌≡◌, drop, map, ◌++◌}
+use Rattle.cc_names.specs.Plains.{parameter_of}
+use Rattle.cc_names.proofs.text.parameters_of.Given as goal
+
+abbrev pub invariant-loop-p : goal.invariant-loop-p
+invariant-loop-p l = l.found ++ map (parameter_of l.fn.numbers.names l.fn.numbers.formats) (drop l.p-index l.all) ≡ map (parameter_of l.fn.numbers.names l.fn.numbers.formats) l.all
