@@ -25,7 +25,8 @@ BELOW = {
     "cc_typed": "cc_base sqlite_items",
     "cc_source": "cc_base cc_typed sqlite_items",
     "cc_queue": "cc_base slab",
-    "cc_kernel": "cc_base cc_queue cc_rules",
+    "cc_timer": "cc_base",
+    "cc_kernel": "cc_base cc_queue cc_rules cc_timer",
     "cc_pool": "cc_base cc_world cc_rules cc_kernel",
 }
 CASES = [("calls", 2_500), ("calls", 25_000), ("calls", 100_000), ("calls", 250_000)]

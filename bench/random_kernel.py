@@ -23,7 +23,8 @@ BELOW = {
     "cc_rules": "cc_base",
     "cc_plain": "cc_base cc_rules",
     "cc_queue": "cc_base slab",
-    "cc_kernel": "cc_base cc_queue cc_rules",
+    "cc_timer": "cc_base",
+    "cc_kernel": "cc_base cc_queue cc_rules cc_timer",
     "cc_pool": "cc_base cc_world cc_rules cc_kernel",
     "kernel_tests": "cc_base cc_world cc_rules cc_plain cc_kernel cc_pool",
 }

@@ -1,18 +1,22 @@
 -- The collective end: what is kept follows the machine, and nothing comes after it.
-use Rattle.std.proofs.Common.{◌≡◌, inl, inr, ℕ, suc, ◌+◌, ◌<◌, ℤ, Bool, true, false, ◌&&◌, ◌||◌, List, [], ◌∷◌, ◌++◌, length, map, refl, sym, ap, ◌∙◌, arith, append_assoc, set}
+use Rattle.std.proofs.Common.{◌≡◌, inl, inr, ℕ, zero, suc, ◌+◌, ◌<◌, All, None, ℤ, Bool, true, false, ◌&&◌, ◌||◌, List, [], ◌∷◌, ◌++◌, length, map, refl, sym, ap, ◌∙◌, subst, arith, append_assoc, set}
 use Rattle.std.specs.Prelude.{if◌then◌else◌}
 use Rattle.std.specs.List.{enumerate_from, list_all, list_any}
 use Rattle.std.proofs.lemmas.Bool.{cases_lt}
 use Rattle.std.proofs.lemmas.List.{get_or_past}
-use Rattle.std.proofs.lemmas.List.Elements.{All-push}
+use Rattle.std.proofs.lemmas.List.Elements.{All-append, All-push}
 use Rattle.cc_base.specs.Meaning.{Meaning}
 use Rattle.cc_base.specs.declared.request.Grant.{Grant}
-use Rattle.cc_kernel.proofs.Plain.{false-from, not-unsettled, over-quiet}
+use Rattle.cc_kernel.proofs.Plain.{IsLate, false-from, not-unsettled, over-quiet}
+use Rattle.cc_kernel.proofs.Simulates.{untimed-kept}
+use Rattle.cc_kernel.proofs.Timed.{deadlines-stay, no-delays-none, of-standing, stands-for}
+use Rattle.cc_kernel.specs.Timed.{deadline_of}
+use Rattle.cc_timer.specs.declared.who.Who.TheVariants as who
 use Rattle.cc_kernel.proofs.Seated.{Seated-length, out-running, plain-at, same-standing}
 use Rattle.cc_kernel.specs.Choice.{after_end, due_in, seat_may_end, seat_waits, waits_so}
 use Rattle.cc_kernel.specs.Counted.{ended_seat, may_terminate}
 use Rattle.cc_kernel.specs.Settles.{GoesOn, IsCalm, Settles}
-use Rattle.cc_kernel.specs.Store.{Contents, IsState, SeatFits, Seated, ended_contents}
+use Rattle.cc_kernel.specs.Store.{Contents, IsPlain, IsState, SeatFits, Seated, ended_contents}
 use Rattle.cc_kernel.specs.Seats.{is_out, seat_at, served_call, vacant, with_left}
 use Rattle.cc_kernel.specs.declared.seat.Seat.{Seat}
 use Rattle.cc_kernel.proofs.Places.{enumerated-length}
@@ -165,6 +169,55 @@ module _ {P : Type 0} (m : Meaning) (located : P → ℕ → List ℤ → List G
   length-map' f [] = refl
   length-map' f (x ∷ xs) = ap suc (length-map' f xs)
 
+  -- who waits at `terminate` has no deadline
+  waiting-none : (s : State) (x : Contents P) (p : ℕ) → IsState located s x → seat_waits m x.seats x.pending p ≡ true → deadline_of (seat_at x.seats p).standing ≡ None
+  waiting-none s x p k h =
+      by (seat_at x.seats p).standing
+      (subst IsPlain (sym (same-standing located s.processes x.seats p k.seated)) (plain-at located s.processes x.seats p k.seated))
+      h
+    where
+      by : (y : ProcessStanding) → IsPlain y → waits_so m p y x.pending ≡ true → deadline_of y ≡ None
+      by Running h e = refl
+      by (AtSelect alts asked) h e = no-delays-none asked alts h
+      by (AtDelay deadline) h e = cc
+      by (AtCall call) h e = refl
+      by Ended h e = refl
+      by (Faulted kind) h e = refl
+
+  ended-deadline :
+      (v : ℕ → Bool) (n : ℕ) (seats : List (Seat P))
+      → ((i : ℕ) → v (n + i) ≡ true → deadline_of (seat_at seats i).standing ≡ None)
+      → (i : ℕ)
+      → deadline_of (seat_at (map (λ e. if v e.0 then with_left Ended else e.1) (enumerate_from n seats)) i).standing ≡ deadline_of (seat_at seats i).standing
+  ended-deadline v n [] h i = refl
+  ended-deadline v n (seat ∷ seats) h zero = either (v n) (λ e. h 0 (let here : n + 0 ≡ n = omega arith in ap v here ∙ e))
+    where
+      either : (b : Bool) → (b ≡ true → deadline_of seat.standing ≡ None) → deadline_of (if b then with_left Ended else seat).standing ≡ deadline_of seat.standing
+      either true none = sym (none refl)
+      either false none = refl
+  ended-deadline v n (seat ∷ seats) h (suc i) =
+      ended-deadline v (n + 1) seats (λ j e. h (suc j) (let there : n + suc j ≡ n + 1 + j = omega arith in ap v there ∙ e)) i
+
+  -- where no kept deadline has come, none of a process has
+  late-at :
+      (s : State) (x : Contents P)
+      → IsState located s x
+      → All (λ d. x.moment < d.0) x.deadlines
+      → (p : ℕ)
+      → IsLate s.moment (process_at s.processes p).standing
+  late-at s x k later p = by (process_at s.processes p).standing (same-standing located s.processes x.seats p k.seated)
+    where
+      by : (y : ProcessStanding) → (seat_at x.seats p).standing ≡ y → IsLate s.moment y
+      by Running e = tt
+      by (AtSelect alts asked) e = tt
+      by (AtDelay deadline) e =
+          rw (← k.moment)
+          (of-standing (λ d. x.moment < d.0) x.deadlines deadline (who.Process (record { 0 = p })) later
+          (stands-for x.seats x.pending x.deadlines (record { 0 = p }) deadline k.timed (ap deadline_of e)))
+      by (AtCall call) e = tt
+      by Ended e = tt
+      by (Faulted kind) e = tt
+
   -- the collective end comes
   state-ended : (s : State) (x : Contents P) → IsState located s x → IsState located (all_ended m s) (ended_contents m x)
   state-ended s x k =
@@ -182,6 +235,11 @@ module _ {P : Type 0} (m : Meaning) (located : P → ℕ → List ℤ → List G
         moment = k.moment;
         rising = omega arith;
         untimed = tt;
+        timed =
+            deadlines-stay x.seats (map (after_end m x.seats x.pending) (enumerate_from 0 x.seats)) x.pending [] x.deadlines
+            (ended-deadline (seat_waits m x.seats x.pending) 0 x.seats
+            (λ i e. let here : 0 + i ≡ i = omega arith in waiting-none s x i k (ap (seat_waits m x.seats x.pending) (sym here) ∙ e)))
+            (untimed-kept located s x k) tt k.timed;
       }
 
   -- the machine has settled by the collective end
@@ -208,18 +266,40 @@ module _ {P : Type 0} (m : Meaning) (located : P → ℕ → List ℤ → List G
             (over-quiet m (next m s End) (λ p. plain-at located (next m s End).processes (ended_contents m x).seats p ended.seated) refl (ended-over m s due));
       }
 
-  -- or it has where nothing can be taken and the collective end is not due
+  -- or it has where nothing can be taken, the collective end is not due and no deadline has come
   pub settles-calm :
       (first : State) (before events : List Event) (x : Contents P)
       → GoesOn m located first before events x
       → ((s : State) → IsState located s x → IsCalm m s)
       → due_in m x.seats x.pending ≡ false
+      → All (λ d. x.moment < d.0) x.deadlines
       → Settles m located first before events x
-  settles-calm first before events x g calm h =
+  settles-calm first before events x g calm h later =
       let s = after m first g.more in
       record {
         goes_on = g;
         settled =
-            not-unsettled m s (λ p. plain-at located s.processes x.seats p g.state.seated) g.state.untimed (calm s g.state)
+            not-unsettled m s (λ p. plain-at located s.processes x.seats p g.state.seated) (late-at s x g.state later) g.state.untimed (calm s g.state)
             (sym (due-same s x g.state) ∙ h);
+      }
+
+  -- it goes on by settling events, and then it has settled
+  pub settles-after :
+      (first : State) (before mid events : List Event) (x y : Contents P)
+      → (g : GoesOn m located first before mid x)
+      → Settles m located (after m first g.more) mid events y
+      → Settles m located first before events y
+  settles-after first before mid events x y g done =
+      let es = done.goes_on.more in
+      let F : List Event → Type 0 = λ front. events ≡ front ++ es in
+      record {
+        goes_on =
+            record {
+              more = g.more ++ es;
+              journal = subst F g.journal done.goes_on.journal ∙ append_assoc before g.more es;
+              settles = All-append (λ e. is_settling e ≡ true) g.more es g.settles done.goes_on.settles;
+              runs = IsRunFrom-append m first g.more es g.runs done.goes_on.runs;
+              state = rw (after-append m first g.more es) done.goes_on.state;
+            };
+        settled = rw (after-append m first g.more es) done.settled;
       }

@@ -1,5 +1,5 @@
 -- The kernel keeps its run where a process goes out, and what a process asks is done.
-use Rattle.std.proofs.Common.{◌≡◌, ℕ, zero, suc, ◌+◌, ◌<◌, ◌≤◌, ℤ, true, false, List, [], ◌∷◌, ◌++◌, length, set, map, refl, sym, ap, ◌∙◌, subst, arith, append_assoc}
+use Rattle.std.proofs.Common.{◌≡◌, ℕ, zero, suc, ◌+◌, ◌<◌, ◌≤◌, ℤ, true, false, List, [], ◌∷◌, ◌++◌, length, set, map, refl, sym, ap, ◌∙◌, subst, arith, append_assoc, None}
 use Rattle.std.specs.Prelude.{All}
 use Rattle.std.proofs.lemmas.List.Elements.{All-nil}
 use Rattle.std.proofs.lemmas.List.{length-set, set-get_or}
@@ -29,17 +29,21 @@ use Rattle.cc_base.specs.declared.request.Request.TheVariants as request
 use Rattle.cc_kernel.proofs.Plain.{running-not-due}
 use Rattle.cc_rules.proofs.NextStays.{running-within}
 use Rattle.cc_rules.proofs.Settled.{IsSettled-by_test}
-use Rattle.cc_kernel.proofs.Settling.{any-time}
+use Rattle.cc_kernel.proofs.Settling.{any-time, state-time}
+use Rattle.cc_kernel.proofs.Simulates.{untimed-kept}
+use Rattle.cc_kernel.proofs.Timed.{deadlines-stay, set-deadline}
+use Rattle.cc_kernel.specs.Timed.{AreDeadlines, DeadlineList, deadline_of, is_moment}
+use Rattle.cc_timer.specs.declared.who.Who.TheVariants as who
 use Rattle.cc_kernel.specs.Settles.{Settles}
 use Rattle.cc_rules.proofs.GoOn.{IsRunFrom-append, IsSettledFrom-append, after-append, turns-append}
 use Rattle.cc_rules.proofs.QuietEvents.{settling-settled, settling-turns}
 use Rattle.cc_rules.specs.Effects.{effect}
 use Rattle.cc_rules.specs.Ends.{is_due, is_unsettled}
 use Rattle.cc_rules.specs.Events.{is_legal, next, request_at, same_word, word_of}
-use Rattle.cc_rules.specs.Runs.{IsRun, IsSettledRun, after, state_after}
+use Rattle.cc_rules.specs.Runs.{IsRun, IsSettledRun, after, is_turn, state_after, turns}
 use Rattle.cc_rules.specs.State.{State, first_state, is_running, process_at}
 use Rattle.cc_rules.specs.declared.event.Event.{Event}
-use Rattle.cc_rules.specs.declared.event.Event.TheVariants.{Ask}
+use Rattle.cc_rules.specs.declared.event.Event.TheVariants.{Ask, Accept, Instant, Expire, Withdraw, Time, End}
 
 module _ {P : Type 0} (m : Meaning) (located : P → ℕ → List ℤ → List Grant → Type 0) where
   ready-seats :
@@ -48,10 +52,10 @@ module _ {P : Type 0} (m : Meaning) (located : P → ℕ → List ℤ → List G
       → IsReadyFor m located store room x
       → IsReadyFor m located (record store { seats = seats }) room x
   ready-seats store room need.Nothing seats e h = tt
-  ready-seats store room need.Step seats e h = (h.0, h.1, h.2, rw e h.3)
-  ready-seats store room (need.Making kind args process) seats e h = ((h.0.0, h.0.1, h.0.2, rw e h.0.3), h.1)
-  ready-seats store room (need.Answering value zeros) seats e h = ((h.0.0, h.0.1, h.0.2, rw e h.0.3), h.1)
-  ready-seats store room need.Moment seats e h = (h.0, h.1, h.2, rw e h.3)
+  ready-seats store room need.Step seats e h = (h.0, h.1, h.2, h.3, rw e h.4)
+  ready-seats store room (need.Making kind args process) seats e h = ((h.0.0, h.0.1, h.0.2, h.0.3, rw e h.0.4), h.1)
+  ready-seats store room (need.Answering value zeros) seats e h = ((h.0.0, h.0.1, h.0.2, h.0.3, rw e h.0.4), h.1)
+  ready-seats store room need.Moment seats e h = (h.0, h.1, h.2, h.3, rw e h.4)
 
   -- a process that is ready goes out
   state-out :
@@ -73,6 +77,10 @@ module _ {P : Type 0} (m : Meaning) (located : P → ℕ → List ℤ → List G
         moment = k.moment;
         rising = k.rising;
         untimed = k.untimed;
+        timed =
+            deadlines-stay x.seats (set x.seats i (with_out (seat_at x.seats i))) x.pending x.pending x.deadlines
+            (λ j. set-deadline x.seats i j (with_out (seat_at x.seats i)) refl)
+            (untimed-kept located s x k) (untimed-kept located s x k) k.timed;
       }
 
   pub kept-out :
@@ -101,18 +109,19 @@ module _ {P : Type 0} (m : Meaning) (located : P → ℕ → List ℤ → List G
 
   -- the first process is ready
   pub kept-first :
-      (allowed room : ℕ) (input : List ℕ) (seats : SeatList P) (pending : CallList) (served : ServedCalls) (events : List Event) (faults : FaultList) (process : P)
+      (allowed room : ℕ) (input : List ℕ) (seats : SeatList P) (pending : CallList) (served : ServedCalls) (deadlines : DeadlineList) (events : List Event) (faults : FaultList) (process : P)
       → seats.items ≡ with_ready process Go ∷ []
       → pending.items ≡ []
       → served_by served ≡ (λ p. [])
+      → deadlines.pairs ≡ []
       → events ≡ []
       → faults.items ≡ []
       → most_processes ≤ faults.spare
       → located process 0 [] []
       → IsKept m located allowed 0 events room
-      (record { seats = seats; pending = pending; served = served; drawn = 0; input = input; taken = 0; moment = 0; most = 0 })
+      (record { seats = seats; pending = pending; served = served; drawn = 0; input = input; taken = 0; moment = 0; deadlines = deadlines; most = 0 })
       need.Nothing faults
-  kept-first allowed room input seats pending served events faults process here none none' begun unlisted listable is =
+  kept-first allowed room input seats pending served deadlines events faults process here none none' undue begun unlisted listable is =
       rw begun
       (record {
         runs = tt;
@@ -128,6 +137,7 @@ module _ {P : Type 0} (m : Meaning) (located : P → ℕ → List ℤ → List G
               moment = refl;
               rising = omega arith;
               untimed = tt;
+              timed = rw (here, none, undue) first-timed;
             };
         rest = rw (here, none) first-rests;
         quiet = refl;
@@ -140,6 +150,14 @@ module _ {P : Type 0} (m : Meaning) (located : P → ℕ → List ℤ → List G
         listable = listable;
       })
     where
+      first-timed : AreDeadlines (with_ready process Go ∷ []) [] []
+      first-timed n (who.Process p) = ap (is_moment n) (sym (no-deadline p.0))
+        where
+          no-deadline : (i : ℕ) → deadline_of (seat_at (with_ready process Go ∷ []) i).standing ≡ None
+          no-deadline zero = refl
+          no-deadline (suc i) = refl
+      first-timed n (who.Call c) = refl
+
       first-rests : (i : ℕ) → RestsSo m i (seat_at (with_ready process Go ∷ []) i).standing []
       first-rests zero = (refl, refl)
       first-rests (suc i) = (refl, refl)
@@ -190,35 +208,29 @@ pub legal-now :
 legal-now m s p r running asks = legal-ask m s p r (running-not-due m s p.0 (running-within s.processes p.0 running) running) running asks
 
 module _ {P : Type 0} (m : Meaning) (located : P → ℕ → List ℤ → List Grant → Type 0) where
-  -- the kernel goes on with what a process asks, and settles
-  pub kept-commit :
-      (allowed spent : ℕ) (events more : List Event) (room room' : ℕ) (store asked store' : Store P) (x : Need P) (faults : FaultList) (p : Pid) (r : Request)
+  -- the kernel goes on with an event that is a turn, and settles
+  kept-turn :
+      (allowed spent : ℕ) (events more : List Event) (room room' : ℕ) (store begun store' : Store P) (x : Need P) (faults : FaultList) (e : Event)
       → IsKept m located allowed spent events room store x faults
-      → is_running (process_at (state_after m store.input events).processes p.0).standing ≡ true
-      → r ≡ request_at m (state_after m store.input events) p
+      → is_legal m (state_after m store.input events) e ≡ true
+      → is_turn e ≡ true
       → spent < allowed
-      → asked.drawn ≤ store.drawn + 1
-      → store'.drawn ≡ asked.drawn
+      → store'.drawn ≤ store.drawn + 1
       → store'.input ≡ store.input
-      → IsState located (effect m (state_after m store.input events) p r) (contents asked)
+      → IsState located (next m (state_after m store.input events) e) (contents begun)
       → AllRest m (contents store')
       → AreWithin m store'.most (served_by store'.served)
-      → ((s : State) → IsState located s (contents asked) → Settles m located s (events ++ Ask p (word_of r) ∷ []) more (contents store'))
+      → ((s : State) → IsState located s (contents begun) → Settles m located s (events ++ e ∷ []) more (contents store'))
       → IsKept m located allowed (spent + 1) more room' store' need.Nothing faults
-  kept-commit allowed spent events more room room' store asked store' x faults p r k running asks left low same-drawn same-input st rest cells settles =
+  kept-turn allowed spent events more room room' store begun store' x faults e k legal turn left low same-input st rest cells settles =
       let s = state_after m store.input events in
       let first = first_state store.input in
-      let e : Event = Ask p (word_of r) in
-      let F : Request → Type 0 = λ y. IsState located (effect m s p y) (contents asked) in
-      let st' : IsState located (next m s e) (contents asked) =
-      any-time m located (effect m s p (request_at m s p)) (contents asked) false (subst F asks st) in
-      let done = settles (next m s e) st' in
+      let done = settles (next m s e) st in
       let es = done.goes_on.more in
       let whole : more ≡ events ++ e ∷ es = done.goes_on.journal ∙ append_assoc events (e ∷ []) es in
       let last : state_after m store.input (events ++ e ∷ es) ≡ after m (next m s e) es = after-append m first events (e ∷ es) in
       let quiet = done.settled in
       let settled = IsSettled-by_test m (after m (next m s e) es) quiet in
-      let legal = legal-now m s p r running asks in
       record {
         runs =
             (let F : List ℕ → Type 0 = λ input. IsRun m input more in
@@ -239,16 +251,66 @@ module _ {P : Type 0} (m : Meaning) (located : P → ℕ → List ℤ → List G
         spent_turns =
             (let t = turns-append events (e ∷ es) in
             let t' = turns-append (e ∷ []) es in
+            let o = one-turn e turn in
             let u = k.spent_turns in
             let z = settling-turns es done.goes_on.settles in
-            rw whole (omega (arith, t, t', u, z)));
+            rw whole (omega (arith, t, t', o, u, z)));
         within = omega (arith, left);
-        low = (let l = k.low in omega (arith, l, low, same-drawn));
+        low = (let l = k.low in omega (arith, l, low));
         cells = cells;
         ready = tt;
         unlisted = k.unlisted;
         listable = k.listable;
       }
+    where
+      one-turn : (e : Event) → is_turn e ≡ true → turns (e ∷ []) ≡ 1
+      one-turn (Ask p w) h = refl
+      one-turn (Accept p i c) h = cc
+      one-turn (Instant p i) h = cc
+      one-turn (Expire p i) h = cc
+      one-turn (Withdraw c) h = cc
+      one-turn (Time t) h = refl
+      one-turn End h = cc
+
+  -- with what a process asks
+  pub kept-commit :
+      (allowed spent : ℕ) (events more : List Event) (room room' : ℕ) (store asked store' : Store P) (x : Need P) (faults : FaultList) (p : Pid) (r : Request)
+      → IsKept m located allowed spent events room store x faults
+      → is_running (process_at (state_after m store.input events).processes p.0).standing ≡ true
+      → r ≡ request_at m (state_after m store.input events) p
+      → spent < allowed
+      → asked.drawn ≤ store.drawn + 1
+      → store'.drawn ≡ asked.drawn
+      → store'.input ≡ store.input
+      → IsState located (effect m (state_after m store.input events) p r) (contents asked)
+      → AllRest m (contents store')
+      → AreWithin m store'.most (served_by store'.served)
+      → ((s : State) → IsState located s (contents asked) → Settles m located s (events ++ Ask p (word_of r) ∷ []) more (contents store'))
+      → IsKept m located allowed (spent + 1) more room' store' need.Nothing faults
+  kept-commit allowed spent events more room room' store asked store' x faults p r k running asks left low same-drawn same-input st rest cells settles =
+      let s = state_after m store.input events in
+      let F : Request → Type 0 = λ y. IsState located (effect m s p y) (contents asked) in
+      kept-turn allowed spent events more room room' store asked store' x faults (Ask p (word_of r)) k
+      (legal-now m s p r running asks) refl left (omega (arith, low, same-drawn)) same-input
+      (any-time m located (effect m s p (request_at m s p)) (contents asked) false (subst F asks st))
+      rest cells settles
+
+  -- or with a Time
+  pub kept-time :
+      (allowed spent : ℕ) (events more : List Event) (room room' : ℕ) (store store' : Store P) (x : Need P) (faults : FaultList) (moment : ℕ)
+      → IsKept m located allowed spent events room store x faults
+      → is_legal m (state_after m store.input events) (Time moment) ≡ true
+      → spent < allowed
+      → store'.drawn ≡ store.drawn
+      → store'.input ≡ store.input
+      → AllRest m (contents store')
+      → AreWithin m store'.most (served_by store'.served)
+      → ((s : State) → IsState located s (contents (record store { moment = moment })) → Settles m located s (events ++ Time moment ∷ []) more (contents store'))
+      → IsKept m located allowed (spent + 1) more room' store' need.Nothing faults
+  kept-time allowed spent events more room room' store store' x faults moment k legal left same-drawn same-input rest cells settles =
+      kept-turn allowed spent events more room room' store (record store { moment = moment }) store' x faults (Time moment) k
+      legal refl left (omega (arith, same-drawn)) same-input (state-time m located (state_after m store.input events) (contents store) moment k.state)
+      rest cells settles
 
 -- what holds of the calls that each process serves holds of the kept ones
 pub all-served :

@@ -51,6 +51,14 @@ module _ (m : Meaning) (wf : WellFormed m) (input : List ℕ) (events : List Eve
       All-map (λ (call : ServedCall). call.trans < length m.shapes) served_call calls
       (λ i d within. served-exists p _ (All-contains_itself calls i d within))
 
+  -- each call that is pending is one of a transaction that exists
+  pub known-now : All (λ (call : TransactionCall). call.trans < length m.shapes) (state_after m input events).pending
+  known-now =
+      let calls = (state_after m input events).pending in
+      λ i d within.
+      transaction-exists m (get_or calls i d).trans (length (get_or calls i d).args)
+      (sound.each_call (get_or calls i d) (inl (All-contains_itself calls i d within))).arguments
+
   -- each call that is pending after a legal Ask is one of a transaction that exists
   pub known-pending :
       (p : Pid) (w : Word)

@@ -8,6 +8,7 @@ pub mod Seated
 pub mod Gone
 pub mod Outs
 pub mod Chosen
+pub mod Timed
 pub mod Simulates
 pub mod Plain
 pub mod Counted
@@ -16,10 +17,13 @@ pub mod Asked
 pub mod Known
 pub mod Settling
 pub mod Ending
+pub mod Expiring
 pub mod Listed
 pub mod Readying
 pub mod Requests
 pub mod Replies
 pub mod Keeping
+pub mod Least
 pub mod Stands
+pub mod Moments
 pub mod Others

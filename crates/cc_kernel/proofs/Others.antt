@@ -7,7 +7,7 @@ use Rattle.cc_base.specs.declared.request.Grant.{Grant}
 use Rattle.cc_base.specs.declared.request.Request.{Request}
 use Rattle.cc_kernel.proofs.Outs.{out-at}
 use Rattle.cc_kernel.proofs.Seated.{Seated-at, out-running}
-use Rattle.cc_kernel.specs.Contract.{StepsOn, is_out_in}
+use Rattle.cc_kernel.specs.Contract.{MovesOn, StepsOn, is_out_in}
 use Rattle.cc_kernel.specs.Store.{IsState, Contents, Seated}
 use Rattle.cc_kernel.specs.Seats.{is_out, seat_at}
 use Rattle.cc_kernel.specs.declared.seat.Seat.{Seat}
@@ -77,6 +77,48 @@ pub steps-on :
 steps-on m located s before more asked store p r asks st settles =
     let e : Event = Ask p (word_of r) in
     let done = settles (effect m s p r) st in
+    record {
+      settling = done.goes_on.more;
+      journal = done.goes_on.journal ∙ append_assoc before (e ∷ []) done.goes_on.more;
+      settles = done.goes_on.settles;
+    }
+
+-- and so do all that are running where it is another moment
+pub all-stay :
+    (m : Meaning) (input : List ℕ) (before events : List Event) (p : Pid) (moment : ℕ)
+    → MovesOn before events moment
+    → IsRun m input events
+    → is_running (process_at (state_after m input before).processes p.0).standing ≡ true
+    → process_at (state_after m input events).processes p.0 ≡ process_at (state_after m input before).processes p.0
+all-stay m input before events p moment moves runs running =
+    let s = state_after m input before in
+    let e : Event = Time moment in
+    let es = moves.settling in
+    let legal : IsRunFrom m s (e ∷ es) = run-behind m (first_state input) before (e ∷ es) (rw moves.journal at runs) in
+    rw (moves.journal, after-append m (first_state input) before (e ∷ es))
+    (settling-stays m (next m s e) es p moves.settles legal.1 running)
+
+-- which prints nothing
+pub prints-none :
+    (m : Meaning) (input : List ℕ) (before events : List Event) (moment : ℕ)
+    → MovesOn before events moment
+    → printed m input events ≡ printed m input before
+prints-none m input before events moment moves =
+    let s = state_after m input before in
+    let e : Event = Time moment in
+    let es = moves.settling in
+    rw (moves.journal, printed-append m (first_state input) before (e ∷ es), settling-prints m (next m s e) es moves.settles, append-nil) refl
+
+-- the journal goes on with another moment
+pub moves-on :
+    {P : Type 0} (m : Meaning) (located : P → ℕ → List ℤ → List Grant → Type 0)
+    (s : State) (before more : List Event) (begun store : Contents P) (moment : ℕ)
+    → IsState located s begun
+    → ((s : State) → IsState located s begun → Settles m located s (before ++ Time moment ∷ []) more store)
+    → MovesOn before more moment
+moves-on m located s before more begun store moment st settles =
+    let e : Event = Time moment in
+    let done = settles s st in
     record {
       settling = done.goes_on.more;
       journal = done.goes_on.journal ∙ append_assoc before (e ∷ []) done.goes_on.more;

@@ -1,10 +1,10 @@
--- Where no deadline stands, a state is settled in which no call and no immediate alternative can be taken and the collective
--- end is not due.
+-- A state is settled in which no call and no immediate alternative can be taken, no deadline has come and the collective end is not
+-- due.
 use Rattle.std.proofs.Common.{◌≡◌, ℕ, suc, ℤ, Bool, true, false, ◌&&◌, ◌||◌, not, List, [], ◌∷◌, length, ◌<◌, get_or, refl, ap, ◌∙◌, nat_eq, Option, Some, None}
 use Rattle.std.specs.Prelude.{is_some, if◌then◌else◌, nat_le}
 use Rattle.std.specs.List.{enumerate_from, list_any}
 use Rattle.std.specs.Option.{option_map_or}
-use Rattle.std.proofs.lemmas.Bool.{and_parts}
+use Rattle.std.proofs.lemmas.Bool.{and_parts, lt-leb}
 use Rattle.std.proofs.lemmas.List.Folds.{list_any_at}
 use Rattle.cc_base.specs.Meaning.{Meaning}
 use Rattle.cc_base.specs.declared.alternatives.Alt.{Alt}
@@ -16,7 +16,7 @@ use Rattle.cc_base.specs.Alternatives.{numbered}
 use Rattle.cc_rules.proofs.Bools.{both-ways}
 use Rattle.cc_rules.proofs.CollectiveEnd.{every-at, over_or_waits}
 use Rattle.cc_rules.specs.Choice.{alternative_deadline, call_deadline, every_process, expires, expires_at, expiring_numbers, has_eligible, has_immediate, is_acceptable, is_chosen, is_eligible, is_first_due, is_terminate, may_withdraw, rank, some_process, takes_at_once}
-use Rattle.cc_rules.specs.Ends.{has_deadline, is_due, is_timed, is_unsettled, waits_at_terminate}
+use Rattle.cc_rules.specs.Ends.{is_due, is_unsettled, waits_at_terminate}
 use Rattle.cc_rules.specs.State.{Process, State, is_over, is_running, open_alternatives, process_at}
 use Rattle.cc_rules.specs.declared.process.ProcessStanding.{ProcessStanding}
 use Rattle.cc_rules.specs.declared.process.ProcessStanding.TheVariants.{Running, AtSelect, AtDelay, AtCall, Ended, Faulted}
@@ -51,13 +51,6 @@ no-deadline asked (alt.After wait) h = absurd h
 no-deadline asked alt.Now h = refl
 no-deadline asked alt.Terminate h = refl
 
-none-timed : (asked : ℕ) (alts : List (ℕ × Alt)) → NoDelays alts → list_any (λ a. is_some (alternative_deadline asked a.1)) alts ≡ false
-none-timed asked [] h = refl
-none-timed asked (a ∷ alts) h =
-    or-false (is_some (alternative_deadline asked a.1)) (list_any (λ b. is_some (alternative_deadline asked b.1)) alts)
-    (ap is_some (no-deadline asked a.1 h.0))
-    (none-timed asked alts h.1)
-
 if-either : {A : Type 0} (F : A → Type 0) (b : Bool) (x y : A) → F x → F y → F (if b then x else y)
 if-either F true x y h k = h
 if-either F false x y h k = k
@@ -70,24 +63,33 @@ numbered-no_delay : (alts : List (ℕ × Alt)) (i : ℕ) → NoDelays alts → N
 numbered-no_delay [] i h = tt
 numbered-no_delay (a ∷ alts) i h = if-either NoDelayOrNone (nat_eq a.0 i) (Some a.1) (numbered alts i) h.0 (numbered-no_delay alts i h.1)
 
-module _ (m : Meaning) (s : State) (plain : (p : ℕ) → IsPlain (process_at s.processes p).standing) where
+-- the deadline of a process that stands so has not come at this moment
+abbrev pub IsLate : ℕ → ProcessStanding → Type 0
+IsLate moment Running = Unit {0}
+IsLate moment (AtSelect alts asked) = Unit {0}
+IsLate moment (AtDelay deadline) = moment < deadline
+IsLate moment (AtCall call) = Unit {0}
+IsLate moment Ended = Unit {0}
+IsLate moment (Faulted kind) = Unit {0}
+
+module _ (m : Meaning) (s : State) (plain : (p : ℕ) → IsPlain (process_at s.processes p).standing) (late : (p : ℕ) → IsLate s.moment (process_at s.processes p).standing) where
   not-first : (asked : ℕ) (o : Option Alt) (f : ℕ → Bool) → NoDelayOrNone o → option_map_or (λ a. option_map_or f (alternative_deadline asked a) false) o false ≡ false
   not-first asked None f h = refl
   not-first asked (Some a) f h = ap (λ o. option_map_or f o false) (no-deadline asked a h)
 
-  none-expires-at : (p i : ℕ) (x : ProcessStanding) → IsPlain x → expires_at m s p i x ≡ false
-  none-expires-at p i Running h = refl
-  none-expires-at p i (AtSelect alts asked) h =
+  none-expires-at : (p i : ℕ) (x : ProcessStanding) → IsPlain x → IsLate s.moment x → expires_at m s p i x ≡ false
+  none-expires-at p i Running h l = refl
+  none-expires-at p i (AtSelect alts asked) h l =
       and-false (is_first_due s.moment asked alts i && not (has_eligible m s p)) (not (has_immediate s p))
       (and-false (is_first_due s.moment asked alts i) (not (has_eligible m s p))
       (not-first asked (numbered alts i) _ (numbered-no_delay alts i h)))
-  none-expires-at p i (AtDelay deadline) h = absurd h
-  none-expires-at p i (AtCall call) h = refl
-  none-expires-at p i Ended h = refl
-  none-expires-at p i (Faulted kind) h = refl
+  none-expires-at p i (AtDelay deadline) h l = and-false-right (nat_eq i 0) (nat_le deadline s.moment) (lt-leb deadline s.moment l)
+  none-expires-at p i (AtCall call) h l = refl
+  none-expires-at p i Ended h l = refl
+  none-expires-at p i (Faulted kind) h l = refl
 
   none-expires : (p i : ℕ) → expires m s p i ≡ false
-  none-expires p i = none-expires-at p i (process_at s.processes p).standing (plain p)
+  none-expires p i = none-expires-at p i (process_at s.processes p).standing (plain p) (late p)
 
 -- no deadline stands for a call for which nobody waits with one
 untimed-deadline : (w : Waiting) → IsUntimed w → call_deadline w ≡ None
@@ -113,6 +115,10 @@ running-stays-on m s p (AtDelay deadline) e h = cc
 running-stays-on m s p (AtCall call) e h = cc
 running-stays-on m s p Ended e h = cc
 running-stays-on m s p (Faulted kind) e h = cc
+
+-- a process at a delay neither is over nor waits at `terminate`
+pub delaying-stays-on : (m : Meaning) (s : State) (p deadline : ℕ) → (process_at s.processes p).standing ≡ AtDelay deadline → over_or_waits m s p ≡ false
+delaying-stays-on m s p deadline e = rw e refl
 
 -- nor where one is running
 pub running-not-due : (m : Meaning) (s : State) (p : ℕ) → p < length s.processes → is_running (process_at s.processes p).standing ≡ true → is_due m s ≡ false
@@ -192,11 +198,12 @@ takes-eligible m s p i j call d lt e h =
 pub not-unsettled :
     (m : Meaning) (s : State)
     → ((p : ℕ) → IsPlain (process_at s.processes p).standing)
+    → ((p : ℕ) → IsLate s.moment (process_at s.processes p).standing)
     → AllUntimed s.pending
     → IsCalm m s
     → is_due m s ≡ false
     → is_unsettled m s ≡ false
-not-unsettled m s plain untimed calm due =
+not-unsettled m s plain late untimed calm due =
     five (is_due m s) (list_any (is_acceptable m s) s.pending)
     (some_process (λ p. list_any (λ a. takes_at_once m s p a.0) (open_alternatives (process_at s.processes p).standing)) s)
     (some_process (λ p. list_any (expires m s p) (expiring_numbers (process_at s.processes p).standing)) s)
@@ -207,7 +214,7 @@ not-unsettled m s plain untimed calm due =
     (λ e. none-of (λ a. takes_at_once m s e.0 a.0) (λ a. calm.none_at_once e.0 a.0) (open_alternatives (process_at s.processes e.0).standing))
     (enumerate_from 0 s.processes))
     (none-of (λ e. list_any (expires m s e.0) (expiring_numbers (process_at s.processes e.0).standing))
-    (λ e. none-of (expires m s e.0) (none-expires m s plain e.0) (expiring_numbers (process_at s.processes e.0).standing))
+    (λ e. none-of (expires m s e.0) (none-expires m s plain late e.0) (expiring_numbers (process_at s.processes e.0).standing))
     (enumerate_from 0 s.processes))
     (none-withdrawn s.pending untimed)
   where
@@ -227,6 +234,14 @@ over-calm m s p (AtCall call) e h = cc
 over-calm m s p Ended e h = (rw e refl, λ i. rw e refl)
 over-calm m s p (Faulted kind) e h = (rw e refl, λ i. rw e refl)
 
+over-late : (moment : ℕ) (x : ProcessStanding) → is_over x ≡ true → IsLate moment x
+over-late moment Running h = cc
+over-late moment (AtSelect alts asked) h = cc
+over-late moment (AtDelay deadline) h = cc
+over-late moment (AtCall call) h = cc
+over-late moment Ended h = tt
+over-late moment (Faulted kind) h = tt
+
 pub over-quiet :
     (m : Meaning) (s : State)
     → ((p : ℕ) → IsPlain (process_at s.processes p).standing)
@@ -234,36 +249,7 @@ pub over-quiet :
     → ((p : ℕ) → is_over (process_at s.processes p).standing ≡ true)
     → is_unsettled m s ≡ false
 over-quiet m s plain none over =
-    not-unsettled m s plain (rw none tt)
+    not-unsettled m s plain (λ p. over-late s.moment (process_at s.processes p).standing (over p)) (rw none tt)
     (record { no_call = rw none refl; none_at_once = λ p i. (over-calm m s p (process_at s.processes p).standing refl (over p)).1 i })
     (and-false-right _ (some_process (waits_at_terminate m s) s)
     (none-of (λ e. waits_at_terminate m s e.0) (λ e. (over-calm m s e.0 (process_at s.processes e.0).standing refl (over e.0)).0) (enumerate_from 0 s.processes)))
-
-not-timed : (x : ProcessStanding) → IsPlain x → is_timed x ≡ false
-not-timed Running h = refl
-not-timed (AtSelect alts asked) h = none-timed asked alts h
-not-timed (AtDelay deadline) h = absurd h
-not-timed (AtCall call) h = refl
-not-timed Ended h = refl
-not-timed (Faulted kind) h = refl
-
-pub no-deadlines :
-    (s : State)
-    → ((p : ℕ) → IsPlain (process_at s.processes p).standing)
-    → AllUntimed s.pending
-    → has_deadline s ≡ false
-no-deadlines s plain untimed =
-    or-false (list_any (λ q. is_timed q.standing) s.processes) (list_any (λ call. is_some (call_deadline call.waiting)) s.pending)
-    (of-processes s.processes plain)
-    (of-calls s.pending untimed)
-  where
-    of-processes : (qs : List Process) → ((p : ℕ) → IsPlain (process_at qs p).standing) → list_any (λ q. is_timed q.standing) qs ≡ false
-    of-processes [] h = refl
-    of-processes (q ∷ qs) h = or-false (is_timed q.standing) (list_any (λ r. is_timed r.standing) qs) (not-timed q.standing (h 0)) (of-processes qs (λ p. h (suc p)))
-
-    of-calls : (calls : List TransactionCall) → AllUntimed calls → list_any (λ call. is_some (call_deadline call.waiting)) calls ≡ false
-    of-calls [] h = refl
-    of-calls (call ∷ calls) h =
-        or-false (is_some (call_deadline call.waiting)) (list_any (λ other. is_some (call_deadline other.waiting)) calls)
-        (ap is_some (untimed-deadline call.waiting h.0))
-        (of-calls calls h.1)

@@ -14,7 +14,7 @@ use Rattle.cc_kernel.proofs.Seated.{Seated-at, out-running}
 use Rattle.cc_kernel.proofs.Stacks.{within-same}
 use Rattle.cc_kernel.specs.Stacks.{served_by}
 use Rattle.cc_kernel.specs.Resting.{AllRest}
-use Rattle.cc_kernel.specs.Contract.{AsksNow, IsEnoughFor, Nothing, is_out_in}
+use Rattle.cc_kernel.specs.Contract.{AsksNow, IsEnoughFor, Moment, Nothing, is_out_in}
 use Rattle.cc_kernel.specs.Invariant.{HasRoom, IsKept, IsReadyFor, prepared_for}
 use Rattle.cc_kernel.specs.Store.{IsState, Contents, Seated, contents}
 use Rattle.cc_kernel.specs.Seats.{is_out, seat_at}
@@ -127,3 +127,15 @@ has-room m located store room need.Step r h k = k
 has-room m located store room (need.Making kind args process) r h k = k.0
 has-room m located store room (need.Answering value zeros) r h k = k.0
 has-room m located store room need.Moment r h k = k
+
+-- or for a Time
+pub ready-moment :
+    {P : Type 0} (m : Meaning) (located : P → ℕ → List ℤ → List Grant → Type 0) (store : Store P) (room : ℕ) (x : Need P)
+    → prepared_for x ≡ Moment
+    → IsReadyFor m located store room x
+    → HasRoom store room
+ready-moment m located store room need.Nothing e h = cc
+ready-moment m located store room need.Step e h = h
+ready-moment m located store room (need.Making kind args process) e h = h.0
+ready-moment m located store room (need.Answering value zeros) e h = h.0
+ready-moment m located store room need.Moment e h = h

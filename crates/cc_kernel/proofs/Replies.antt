@@ -1,5 +1,5 @@
 -- A process answers the innermost call that it serves.
-use Rattle.std.proofs.Common.{◌≡◌, ◌≢◌, inl, inr, ℕ, zero, suc, ◌-◌, ◌<◌, ◌≤◌, ℤ, List, [], ◌∷◌, ◌++◌, length, set, map, take, refl, sym, ap, ◌∙◌, subst, arith, length-append, Some}
+use Rattle.std.proofs.Common.{true, ◌≡◌, ◌≢◌, inl, inr, ℕ, zero, suc, ◌-◌, ◌<◌, ◌≤◌, ℤ, List, [], ◌∷◌, ◌++◌, length, set, map, take, refl, sym, ap, ◌∙◌, subst, arith, length-append, Some}
 use Rattle.std.specs.Prelude.{All, slice_get, pos, replicate}
 use Rattle.std.specs.Option.{option_map_or}
 use Rattle.std.proofs.lemmas.List.{length-set}
@@ -11,13 +11,14 @@ use Rattle.cc_base.specs.declared.request.Grant.TheVariants.{Go, Value}
 use Rattle.cc_kernel.proofs.Outs.{length-answered}
 use Rattle.cc_kernel.proofs.Seated.{Seated-answered, Seated-length, Seated-ready}
 use Rattle.cc_kernel.specs.Stacks.{IsInnermost}
-use Rattle.cc_kernel.proofs.Simulates.{same-or-not, serving-answered, serving-other, serving-own}
+use Rattle.cc_kernel.proofs.Simulates.{same-or-not, serving-answered, serving-other, serving-own, untimed-kept}
+use Rattle.cc_kernel.proofs.Timed.{answered-deadline, changed-timed, deadlines-stay, running-none, set-deadline}
 use Rattle.cc_kernel.specs.Store.{IsLocated, IsState, Contents, went_on}
-use Rattle.cc_kernel.specs.Seats.{answered_seats, served_call, with_ready}
+use Rattle.cc_kernel.specs.Seats.{answered_seats, seat_at, served_call, with_ready}
 use Rattle.cc_kernel.specs.declared.served.ServedCall.{ServedCall}
 use Rattle.cc_base.specs.Grants.{value_cells}
 use Rattle.cc_rules.specs.Effects.{answered, granted, of_cells, replied, without_innermost}
-use Rattle.cc_rules.specs.State.{Process, State, process_at}
+use Rattle.cc_rules.specs.State.{Process, State, is_running, process_at}
 use Rattle.cc_rules.specs.declared.process.TransactionCall.{TransactionCall}
 
 -- the first cells, where there are enough zeros behind
@@ -105,11 +106,12 @@ module _ {P : Type 0} (m : Meaning) (located : P → ℕ → List ℤ → List G
   reply-none :
       (s : State) (x : Contents P) (p : ℕ) (process : P) (asked : List ℤ)
       → IsState located s x
+      → is_running (seat_at x.seats p).standing ≡ true
       → p < length x.seats
       → x.served p ≡ []
       → IsLocated located s p process
       → IsState located (replied-by s p asked []) (went_on x p process Go)
-  reply-none s x p process asked k lt none is =
+  reply-none s x p process asked k r lt none is =
       record {
         seated = Seated-ready located s.processes x.seats p process Go [] k.seated is;
         few = rw length-set k.few;
@@ -120,22 +122,25 @@ module _ {P : Type 0} (m : Meaning) (located : P → ℕ → List ℤ → List G
         moment = k.moment;
         rising = k.rising;
         untimed = k.untimed;
+        timed = changed-timed x.seats x.pending x.deadlines p (with_ready process Go) (running-none (seat_at x.seats p).standing r) refl (untimed-kept located s x k) k.timed;
       }
 
   pub state-reply-none :
       (s : State) (x : Contents P) (p : ℕ) (process : P) (asked : List ℤ)
       → IsState located s x
+      → is_running (seat_at x.seats p).standing ≡ true
       → p < length x.seats
       → x.served p ≡ []
       → IsLocated located s p process
       → IsState located (replied m s p asked) (went_on x p process Go)
-  state-reply-none s x p process asked k lt none is =
+  state-reply-none s x p process asked k r lt none is =
       let F : List TransactionCall → Type 0 = λ serving. IsState located (replied-by s p asked serving) (went_on x p process Go) in
-      subst F (sym (map-none (process_at s.processes p).serving (sym (k.served p) ∙ none))) (reply-none s x p process asked k lt none is)
+      subst F (sym (map-none (process_at s.processes p).serving (sym (k.served p) ∙ none))) (reply-none s x p process asked k r lt none is)
 
   reply-some :
       (s : State) (x : Contents P) (p : ℕ) (process : P) (asked : List ℤ) (call : TransactionCall) (left : ℕ → List ServedCall) (front : List TransactionCall)
       → IsState located s x
+      → is_running (seat_at x.seats p).standing ≡ true
       → p < length x.seats
       → IsInnermost p (served_call call) x.served left
       → map served_call front ≡ left p
@@ -145,7 +150,7 @@ module _ {P : Type 0} (m : Meaning) (located : P → ℕ → List ℤ → List G
         seats = answered_seats (set x.seats p (with_ready process Go)) (served_call call) (Value (of_cells (value_cells m call.trans) asked));
         served = left;
       })
-  reply-some s x p process asked call left front k lt split own is =
+  reply-some s x p process asked call left front k running lt split own is =
       let n : length (front ++ call ∷ []) - 1 ≡ length front = last-index front call in
       let new : Process = record (granted (process_at s.processes p) Go) { serving = front } in
       let grant : Grant = Value (of_cells (value_cells m call.trans) asked) in
@@ -162,11 +167,18 @@ module _ {P : Type 0} (m : Meaning) (located : P → ℕ → List ℤ → List G
         moment = k.moment;
         rising = k.rising;
         untimed = k.untimed;
+        timed =
+            deadlines-stay x.seats (answered_seats (set x.seats p (with_ready process Go)) (served_call call) grant) x.pending x.pending x.deadlines
+            (λ i.
+            answered-deadline (set x.seats p (with_ready process Go)) (served_call call) grant i
+            ∙ set-deadline x.seats p i (with_ready process Go) (sym (running-none (seat_at x.seats p).standing running)))
+            (untimed-kept located s x k) (untimed-kept located s x k) k.timed;
       })
 
   pub state-reply :
       (s : State) (x : Contents P) (p : ℕ) (process : P) (asked : List ℤ) (c : ServedCall) (left : ℕ → List ServedCall)
       → IsState located s x
+      → is_running (seat_at x.seats p).standing ≡ true
       → p < length x.seats
       → IsInnermost p c x.served left
       → IsLocated located s p process
@@ -175,7 +187,7 @@ module _ {P : Type 0} (m : Meaning) (located : P → ℕ → List ℤ → List G
         seats = answered_seats (set x.seats p (with_ready process Go)) c (Value (of_cells (value_cells m c.trans) asked));
         served = left;
       })
-  state-reply s x p process asked c left k lt split is =
+  state-reply s x p process asked c left k running lt split is =
       let r = ends-so (process_at s.processes p).serving (left p) c (sym (k.served p) ∙ split.own) in
       let F : List TransactionCall → Type 0 = λ serving.
       IsState located (replied-by s p asked serving)
@@ -190,7 +202,7 @@ module _ {P : Type 0} (m : Meaning) (located : P → ℕ → List ℤ → List G
         seats = answered_seats (set x.seats p (with_ready process Go)) d (Value (of_cells (value_cells m d.trans) asked));
         served = left;
       }) in
-      subst F (sym r.2) (subst G r.4 (λ split'. reply-some s x p process asked r.1 left r.0 k lt split' r.3 is) split)
+      subst F (sym r.2) (subst G r.4 (λ split'. reply-some s x p process asked r.1 left r.0 k running lt split' r.3 is) split)
 
 -- what holds of all served calls holds of the one that is taken out
 pub of-innermost :

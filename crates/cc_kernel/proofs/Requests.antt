@@ -12,6 +12,7 @@ use Rattle.cc_base.specs.declared.request.Grant.TheVariants.{Go, Gone, Made}
 use Rattle.cc_base.specs.declared.request.Request.TheVariants.{Call, Create, Send}
 use Rattle.cc_kernel.proofs.Outs.{outs-gone}
 use Rattle.cc_kernel.proofs.Seated.{Seated-length, same-standing}
+use Rattle.cc_kernel.proofs.Timed.{no-delays-none}
 use Rattle.cc_kernel.proofs.Simulates.{map-append, state-call, state-go, state-leave, state-make, state-send, state-wait}
 use Rattle.cc_kernel.specs.Untimed.{NoDelays}
 use Rattle.cc_kernel.specs.Contract.{Answering, IsEnoughFor, Making, SameOuts, is_out_in}
@@ -27,7 +28,7 @@ use Rattle.cc_kernel.specs.declared.served.ServedCall.{ServedCall}
 use Rattle.cc_kernel.proofs.Stacks.{within-left, within-same}
 use Rattle.cc_base.specs.Limits.{most_processes}
 use Rattle.cc_rules.specs.Effects.{called, effect, ended, grant_to, is_for, with_standing}
-use Rattle.cc_rules.specs.State.{State, is_over, made, process_at}
+use Rattle.cc_rules.specs.State.{State, is_over, is_running, made, process_at}
 use Rattle.std.specs.List.{filter}
 use Rattle.cc_rules.specs.declared.process.ProcessStanding.{ProcessStanding}
 use Rattle.cc_rules.specs.declared.process.ProcessStanding.TheVariants.{AtCall, AtSelect, Faulted}
@@ -38,10 +39,11 @@ module _ {P : Type 0} (m : Meaning) (located : P → ℕ → List ℤ → List G
   pub state-asks-call :
       (s : State) (x : Contents P) (p : Pid) (process : P) (target : Pid) (trans : ℕ) (args : List ℤ)
       → IsState located s x
+      → is_running (seat_at x.seats p.0).standing ≡ true
       → IsLocated located s p.0 process
       → IsState located (effect m s p (Call target trans args))
       (if is_over (seat_at x.seats target.0).standing then went_on x p.0 process Gone else called_contents x p process target trans args)
-  state-asks-call s x p process target trans args k is =
+  state-asks-call s x p process target trans args k r is =
       rw (same-standing located s.processes x.seats target.0 k.seated) (either (is_over (process_at s.processes target.0).standing))
     where
       either :
@@ -51,17 +53,18 @@ module _ {P : Type 0} (m : Meaning) (located : P → ℕ → List ℤ → List G
           then called s (with_standing s.processes p.0 (AtCall (record { 0 = s.drawn }))) target trans args (Caller p)
           else record s { processes = grant_to s.processes p.0 Gone })
           (if b then went_on x p.0 process Gone else called_contents x p process target trans args)
-      either true = state-go located s x p.0 process Gone k is
-      either false = state-call located s x p process target trans args k is
+      either true = state-go located s x p.0 process Gone k r is
+      either false = state-call located s x p process target trans args k r is
 
   -- it sends
   pub state-asks-send :
       (s : State) (x : Contents P) (p : Pid) (process : P) (target : Pid) (trans : ℕ) (args : List ℤ)
       → IsState located s x
+      → is_running (seat_at x.seats p.0).standing ≡ true
       → IsLocated located s p.0 process
       → IsState located (effect m s p (Send target trans args))
       (if is_over (seat_at x.seats target.0).standing then went_on x p.0 process Go else sent_contents x p process target trans args)
-  state-asks-send s x p process target trans args k is =
+  state-asks-send s x p process target trans args k r is =
       rw (same-standing located s.processes x.seats target.0 k.seated) (either (is_over (process_at s.processes target.0).standing))
     where
       either :
@@ -71,30 +74,32 @@ module _ {P : Type 0} (m : Meaning) (located : P → ℕ → List ℤ → List G
           then called s (grant_to s.processes p.0 Go) target trans args Nobody
           else record s { processes = grant_to s.processes p.0 Go })
           (if b then went_on x p.0 process Go else sent_contents x p process target trans args)
-      either true = state-go located s x p.0 process Go k is
-      either false = state-send located s x p process target trans args k is
+      either true = state-go located s x p.0 process Go k r is
+      either false = state-send located s x p process target trans args k r is
 
   -- it waits for one of these alternatives
   pub state-asks-select :
       (s : State) (x : Contents P) (p : ℕ) (process : P) (alts : List (ℕ × Alt))
       → IsState located s x
+      → is_running (seat_at x.seats p).standing ≡ true
       → NoDelays alts
       → IsLocated located s p process
       → IsState located (record s { processes = with_standing s.processes p (AtSelect alts s.moment) }) (waited x p process (AtSelect alts x.moment))
-  state-asks-select s x p process alts k accepts is =
+  state-asks-select s x p process alts k r accepts is =
       let F : ℕ → Type 0 = λ n. IsState located (record s { processes = with_standing s.processes p (AtSelect alts n) }) (waited x p process (AtSelect alts x.moment)) in
-      subst F k.moment (state-wait located s x p process (AtSelect alts x.moment) k (refl, refl, accepts) is)
+      subst F k.moment (state-wait located s x p process (AtSelect alts x.moment) k r (no-delays-none x.moment alts accepts) (refl, refl, accepts) is)
 
   -- it makes another, where there are not too many
   pub state-asks-create :
       (s : State) (x : Contents P) (p : Pid) (process new : P) (kind : ℕ) (args : List ℤ)
       → IsState located s x
+      → is_running (seat_at x.seats p.0).standing ≡ true
       → p.0 < length x.seats
       → IsLocated located s p.0 process
       → located new kind args []
       → IsState located (effect m s p (Create kind args))
       (if nat_lt (length x.seats) most_processes then made_contents x p.0 process new else left_contents x p.0 (Faulted TooMany))
-  state-asks-create s x p process new kind args k lt is starts =
+  state-asks-create s x p process new kind args k r lt is starts =
       let F : ℕ → Type 0 = λ n.
       IsState located
       (if nat_lt n most_processes
@@ -114,8 +119,8 @@ module _ {P : Type 0} (m : Meaning) (located : P → ℕ → List ℤ → List G
           then record s { processes = grant_to s.processes p.0 (Made (record { 0 = length s.processes })) ++ made kind args ∷ [] }
           else ended s p.0 (Faulted TooMany))
           (if b then made_contents x p.0 process new else left_contents x p.0 (Faulted TooMany))
-      either true e = state-make located s x p.0 process new kind args k (below (length x.seats) most_processes e) is starts
-      either false e = state-leave located s x p.0 (Faulted TooMany) k lt (refl, tt)
+      either true e = state-make located s x p.0 process new kind args k r (below (length x.seats) most_processes e) is starts
+      either false e = state-leave located s x p.0 (Faulted TooMany) k r lt (refl, tt)
 
   -- what was started for a Create
   pub start-made :

@@ -22,12 +22,12 @@ use Rattle.cc_kernel.specs.Resting.{AllRest, RestBut, RestsAt, RestsSo}
 use Rattle.cc_kernel.proofs.Stacks.{same-everywhere}
 use Rattle.cc_kernel.specs.Seats.{answered_seats, gone_seats, no_call, seat_at, served_call, vacant, with_left, with_out, with_ready, with_waiting, woken}
 use Rattle.cc_kernel.specs.Settles.{IsCalm}
-use Rattle.cc_kernel.specs.Store.{Contents, IsState, accepted_contents, called_contents, chose_contents, ended_contents, left_contents, made_contents, sent_contents, waited, went_on}
+use Rattle.cc_kernel.specs.Store.{Contents, IsState, accepted_contents, called_contents, chose_contents, delayed_contents, ended_contents, expired_contents, left_contents, made_contents, sent_contents, waited, went_on}
 use Rattle.cc_kernel.specs.declared.seat.Seat.{Seat}
 use Rattle.cc_kernel.specs.declared.served.ServedCall.{ServedCall}
 use Rattle.cc_rules.proofs.Bools.{both-ways}
 use Rattle.cc_rules.specs.Choice.{accepts, has_eligible, has_immediate, is_acceptable, is_eligible, is_immediate}
-use Rattle.cc_rules.specs.Effects.{caller_of, is_for, waits_for}
+use Rattle.cc_rules.specs.Effects.{caller_of, deadline_after, is_for, waits_for}
 use Rattle.cc_rules.specs.State.{State, is_over, open_alternatives, process_at}
 use Rattle.cc_rules.specs.declared.process.ProcessStanding.{ProcessStanding}
 use Rattle.cc_rules.specs.declared.process.ProcessStanding.TheVariants.{Running, AtSelect, AtDelay, AtCall, Ended, Faulted}
@@ -194,6 +194,14 @@ module _ (m : Meaning) where
             → RestsSo m q (seat_at seats q).standing x.pending
             → RestsSo m q (seat_at (set seats at seat) q).standing x.pending
         others seats at q seat ne rests = rw get_or-set_other rests
+
+    -- it waits for a moment
+    pub rest-delay : (x : Contents P) (p : Pid) (process : P) (wait : ℤ) → AllRest m x → AllRest m (delayed_contents x p process wait)
+    rest-delay x p process wait all = rest-set x.seats x.pending p.0 (with_waiting process (AtDelay (deadline_after x.moment wait))) (refl, refl) all
+
+    -- its moment has come
+    pub rest-expired : (x : Contents P) (p : Pid) (deadline : ℕ) → AllRest m x → AllRest m (expired_contents x p deadline)
+    rest-expired x p deadline all = rest-set x.seats x.pending p.0 (woken (seat_at x.seats p.0) Go) (refl, refl) all
 
     -- it is over
     pub rest-left : (x : Contents P) (p : ℕ) (standing : ProcessStanding) → is_over standing ≡ true → AllRest m x → AllRest m (left_contents x p standing)

@@ -1,17 +1,18 @@
 -- A call or an immediate alternative is taken: it is legal, and what is kept goes on as the state does.
-use Rattle.std.proofs.Common.{◌≡◌, inl, inr, ℕ, zero, suc, ◌<◌, ℤ, Bool, true, false, ◌||◌, not, List, [], ◌∷◌, ◌++◌, length, set, map, refl, sym, ap, ◌∙◌, arith, nat_eq, append_assoc, append-nil, Option, Some, None, ◌&&◌}
+use Rattle.std.proofs.Common.{◌≡◌, inl, inr, ℕ, zero, suc, ◌<◌, ◌≤◌, ℤ, Bool, true, false, ◌||◌, not, List, [], ◌∷◌, ◌++◌, length, set, map, refl, sym, ap, ◌∙◌, arith, nat_eq, append_assoc, append-nil, Option, Some, None, ◌&&◌}
 use Rattle.std.specs.Prelude.{if◌then◌else◌}
 use Rattle.std.specs.List.{filter, list_all}
-use Rattle.std.proofs.lemmas.Bool.{eqb-true}
+use Rattle.std.proofs.lemmas.Bool.{eqb-true, le-leb}
 use Rattle.std.proofs.lemmas.List.{length-set}
 use Rattle.std.proofs.lemmas.List.Elements.{All-nil, All-push}
 use Rattle.cc_base.specs.Meaning.{Meaning}
 use Rattle.cc_base.specs.declared.request.Grant.{Grant}
-use Rattle.cc_base.specs.declared.request.Grant.TheVariants.{Chose, Took}
-use Rattle.cc_kernel.proofs.Plain.{any-numbered, choosing-not-due, takes-eligible}
-use Rattle.cc_kernel.proofs.Seated.{Seated-at, Seated-length, Seated-set, same-standing, woken-fits}
+use Rattle.cc_base.specs.declared.request.Grant.TheVariants.{Chose, Go, Took}
+use Rattle.cc_kernel.proofs.Plain.{any-numbered, choosing-not-due, delaying-stays-on, not-due-where, takes-eligible}
+use Rattle.cc_kernel.proofs.Seated.{Seated-at, Seated-length, Seated-set, plain-at, same-standing, woken-fits}
+use Rattle.cc_kernel.proofs.Timed.{changed-timed, deadlines-fewer, deadlines-stay, open-none, set-deadline}
 use Rattle.cc_kernel.proofs.Serving.{AllUntimed-filter, Rising-filter, found-at}
-use Rattle.cc_kernel.proofs.Simulates.{map-append, same-or-not, serving-other, serving-own, serving-set}
+use Rattle.cc_kernel.proofs.Simulates.{map-append, same-or-not, serving-other, serving-own, serving-set, untimed-kept}
 use Rattle.cc_base.specs.Alternatives.{numbered}
 use Rattle.cc_base.specs.declared.alternatives.Alt.{Alt}
 use Rattle.cc_base.specs.declared.alternatives.Alt.TheVariants as alt
@@ -21,7 +22,8 @@ use Rattle.cc_kernel.specs.Choice.{eligible_for, goes_at_once}
 use Rattle.cc_rules.specs.Choice.{accepts, call_numbered, goes_before, has_eligible, has_immediate, is_chosen, is_immediate, rank, takes_at_once}
 use Rattle.std.specs.Option.{option_map_or}
 use Rattle.std.proofs.lemmas.Bool.{and_parts}
-use Rattle.cc_kernel.specs.Store.{IsState, Contents, accepted_contents, chose_contents}
+use Rattle.cc_kernel.specs.Store.{IsState, Contents, accepted_contents, chose_contents, expired_contents}
+use Rattle.cc_kernel.specs.Timed.{deadline_of}
 use Rattle.cc_kernel.specs.Seats.{no_call, seat_at, served_call, woken}
 use Rattle.cc_kernel.proofs.Stacks.{one-more-other, one-more-own}
 use Rattle.cc_kernel.specs.Stacks.{one_more}
@@ -30,11 +32,11 @@ use Rattle.cc_kernel.specs.declared.seat.Seat.{Seat}
 use Rattle.cc_kernel.specs.declared.served.ServedCall.{ServedCall}
 use Rattle.cc_rules.proofs.GoOn.{IsRunFrom-append, after-append}
 use Rattle.cc_rules.specs.Effects.{granted}
-use Rattle.cc_rules.specs.Events.{accepted}
+use Rattle.cc_rules.specs.Events.{accepted, next}
 use Rattle.cc_rules.specs.Runs.{after, is_settling}
 use Rattle.cc_rules.specs.State.{Process, State, is_over, is_running, open_alternatives, process_at}
 use Rattle.cc_rules.specs.declared.event.Event.{Event}
-use Rattle.cc_rules.specs.declared.event.Event.TheVariants.{Accept, Instant}
+use Rattle.cc_rules.specs.declared.event.Event.TheVariants.{Accept, Expire, Instant, Time}
 use Rattle.cc_rules.specs.declared.process.ProcessStanding.{ProcessStanding}
 use Rattle.cc_rules.specs.declared.process.ProcessStanding.TheVariants.{Running, AtSelect, AtDelay, AtCall, Ended, Faulted}
 use Rattle.cc_rules.specs.declared.process.TransactionCall.{TransactionCall}
@@ -119,6 +121,23 @@ module _ {P : Type 0} (m : Meaning) (located : P → ℕ → List ℤ → List G
         moment = k.moment;
         rising = k.rising;
         untimed = k.untimed;
+        timed = k.timed;
+      }
+
+  -- it is another moment
+  pub state-time : (s : State) (x : Contents P) (moment : ℕ) → IsState located s x → IsState located (next m s (Time moment)) (record x { moment = moment })
+  state-time s x moment k =
+      record {
+        seated = k.seated;
+        few = k.few;
+        pending = k.pending;
+        served = k.served;
+        drawn = k.drawn;
+        input = k.input;
+        moment = refl;
+        rising = k.rising;
+        untimed = k.untimed;
+        timed = k.timed;
       }
 
   -- where the kept calls are written as those of the state
@@ -127,8 +146,9 @@ module _ {P : Type 0} (m : Meaning) (located : P → ℕ → List ℤ → List G
       → IsState located s x
       → call.target.0 ≡ p
       → (is_running (process_at s.processes p).standing ≡ false) × (is_over (process_at s.processes p).standing ≡ false)
+      → deadline_of (process_at s.processes p).standing ≡ None
       → IsState located (accepted s p i call) (accepted_contents x p i call)
-  state-accepted s x p i call k here waits =
+  state-accepted s x p i call k here waits none =
       let q = process_at s.processes p in
       let over : is_over (seat_at x.seats p).standing ≡ false = ap is_over (same-standing located s.processes x.seats p k.seated) ∙ waits.1 in
       let within = waits-within x.seats p over in
@@ -146,6 +166,11 @@ module _ {P : Type 0} (m : Meaning) (located : P → ℕ → List ℤ → List G
         moment = k.moment;
         rising = Rising-filter (λ other. not (nat_eq other.number.0 call.number.0)) 0 s.pending s.drawn k.rising;
         untimed = AllUntimed-filter (λ other. not (nat_eq other.number.0 call.number.0)) s.pending k.untimed;
+        timed =
+            deadlines-stay x.seats (set x.seats p (woken (seat_at x.seats p) (Took i call.args)))
+            x.pending (filter (λ other. not (nat_eq other.number.0 call.number.0)) x.pending) x.deadlines
+            (λ j. set-deadline x.seats p j (woken (seat_at x.seats p) (Took i call.args)) (sym (ap deadline_of (same-standing located s.processes x.seats p k.seated) ∙ none)))
+            (untimed-kept located s x k) (AllUntimed-filter (λ other. not (nat_eq other.number.0 call.number.0)) x.pending (untimed-kept located s x k)) k.timed;
       }
 
   -- a call is taken
@@ -167,7 +192,8 @@ module _ {P : Type 0} (m : Meaning) (located : P → ℕ → List ℤ → List G
       record {
         legal = rw (due, found') t';
         settling = refl;
-        state = rw found' (any-time (accepted s p.0 i call) (accepted_contents x p.0 i call) false (state-accepted s x p.0 i call k (chosen-target m p.0 (numbered (open_alternatives (process_at s.processes p.0).standing) i) s.pending call t') waits));
+        state = rw found' (any-time (accepted s p.0 i call) (accepted_contents x p.0 i call) false (state-accepted s x p.0 i call k (chosen-target m p.0 (numbered (open_alternatives (process_at s.processes p.0).standing) i) s.pending call t') waits
+            (open-none (λ a. is_chosen m p.0 a s.pending call) (process_at s.processes p.0).standing i (plain-at located s.processes x.seats p.0 k.seated) t')));
       }
     where
       or-left : (a b : Bool) → a ≡ true → (a || b) ≡ true
@@ -205,12 +231,53 @@ module _ {P : Type 0} (m : Meaning) (located : P → ℕ → List ℤ → List G
               moment = k.moment;
               rising = k.rising;
               untimed = k.untimed;
+              timed =
+                  changed-timed x.seats x.pending x.deadlines p.0 (woken (seat_at x.seats p.0) (Chose i))
+                  (ap deadline_of same ∙ open-none is_immediate q.standing i (plain-at located s.processes x.seats p.0 k.seated) parts.0)
+                  refl (untimed-kept located s x k) k.timed;
             });
       }
     where
       or-behind : (a b : Bool) → b ≡ true → (a || b) ≡ true
       or-behind true b h = refl
       or-behind false b h = h
+
+  -- a process has waited until its deadline
+  pub expires-one :
+      (s : State) (x : Contents P) (p : Pid) (deadline : ℕ)
+      → IsState located s x
+      → (seat_at x.seats p.0).standing ≡ AtDelay deadline
+      → deadline ≤ x.moment
+      → TakesOne m located s (Expire p 0) (expired_contents x p deadline)
+  expires-one s x p deadline k at come =
+      let q = process_at s.processes p.0 in
+      let same : q.standing ≡ AtDelay deadline = sym (same-standing located s.processes x.seats p.0 k.seated) ∙ at in
+      let lt = waits-within x.seats p.0 (ap is_over at) in
+      let within : p.0 < length s.processes = rw (Seated-length located s.processes x.seats k.seated) lt in
+      let due = not-due-where m s p.0 within (delaying-stays-on m s p.0 deadline same) in
+      record {
+        legal =
+            (let now : deadline ≤ s.moment = rw (← k.moment) come in
+            rw (due, same) (le-leb deadline s.moment now));
+        settling = refl;
+        state =
+            rw same
+            (record {
+              seated =
+                  Seated-set located s.processes x.seats p.0 (granted q Go) (woken (seat_at x.seats p.0) Go) k.seated
+                  (woken-fits located q (seat_at x.seats p.0) Go q.serving (ap is_running same) (ap is_over same) (Seated-at located s.processes x.seats p.0 lt k.seated));
+              few = rw length-set k.few;
+              pending = k.pending;
+              served = λ j. k.served j ∙ ap (map served_call) (sym (serving-set s.processes p.0 j (granted q Go) refl));
+              drawn = k.drawn;
+              input = k.input;
+              moment = k.moment;
+              rising = k.rising;
+              untimed = k.untimed;
+              timed =
+                  deadlines-fewer x.seats x.pending x.deadlines p (woken (seat_at x.seats p.0) Go) deadline lt (ap deadline_of at) refl k.timed;
+            });
+      }
 
   -- the journal is as it was
   pub goes-none : (first : State) (before : List Event) (x : Contents P) → IsState located first x → GoesOn m located first before before x

@@ -1,5 +1,5 @@
 -- What is kept goes on as the state does, request by request.
-use Rattle.std.proofs.Common.{◌≡◌, ◌≢◌, ℕ, zero, suc, ◌+◌, ◌<◌, ◌≤◌, ℤ, Bool, true, false, not, List, [], ◌∷◌, ◌++◌, length, set, map, refl, sym, ap, ◌∙◌, arith, add-one, drop, length-append, Option, Some, None}
+use Rattle.std.proofs.Common.{◌≡◌, ◌≢◌, ℕ, zero, suc, ◌+◌, ◌<◌, ◌≤◌, ℤ, Bool, true, false, not, List, [], ◌∷◌, ◌++◌, length, set, map, refl, sym, ap, ◌∙◌, subst, arith, add-one, drop, length-append, Option, Some, None}
 use Rattle.std.specs.Prelude.{if◌then◌else◌, nat_lt, slice_get}
 use Rattle.std.specs.List.{filter}
 use Rattle.std.specs.Option.{option_map_or}
@@ -13,15 +13,19 @@ use Rattle.cc_kernel.proofs.Outs.{gone_seats-append, length-gone}
 use Rattle.cc_kernel.proofs.Seated.{Seated-gone, Seated-left, Seated-length, Seated-push, Seated-ready, Seated-waiting}
 use Rattle.cc_kernel.proofs.Serving.{AllUntimed-filter, AllUntimed-push, Rising-filter, Rising-push}
 use Rattle.cc_kernel.proofs.Stacks.{none-served-other, none-served-own}
+use Rattle.cc_kernel.proofs.Timed.{changed-timed, deadlines-more, deadlines-stay, gone-deadline, over-none, push-deadline, running-none, set-deadline}
 use Rattle.cc_kernel.specs.Stacks.{none_served}
-use Rattle.cc_kernel.specs.Store.{IsLocated, IsPlain, IsState, Contents, called_contents, got_byte, left_contents, made_contents, sent_contents, waited, went_on}
-use Rattle.cc_kernel.specs.Seats.{gone_seats, served_call, with_left, with_ready}
+use Rattle.cc_kernel.specs.Timed.{deadline_of}
+use Rattle.cc_kernel.specs.Store.{AllUntimed, IsLocated, IsPlain, IsState, Contents, called_contents, delayed_contents, got_byte, left_contents, made_contents, sent_contents, waited, went_on}
+use Rattle.cc_kernel.specs.Seats.{gone_seats, seat_at, served_call, with_left, with_ready, with_waiting}
 use Rattle.cc_kernel.specs.declared.seat.Seat.{Seat}
 use Rattle.cc_base.specs.Limits.{most_processes}
-use Rattle.cc_rules.specs.Effects.{answered, called, caller_of, each_gets_gone, ended, first_byte, grant_to, granted, is_for, rest_of, waits_for, with_standing}
+use Rattle.cc_timer.specs.Deadlines.{with_deadline}
+use Rattle.cc_timer.specs.declared.who.Who.TheVariants as who
+use Rattle.cc_rules.specs.Effects.{answered, called, caller_of, deadline_after, each_gets_gone, ended, first_byte, grant_to, granted, is_for, rest_of, waits_for, with_standing}
 use Rattle.cc_rules.specs.State.{Process, State, is_over, is_running, made, process_at}
 use Rattle.cc_rules.specs.declared.process.ProcessStanding.{ProcessStanding}
-use Rattle.cc_rules.specs.declared.process.ProcessStanding.TheVariants.{AtCall}
+use Rattle.cc_rules.specs.declared.process.ProcessStanding.TheVariants.{AtCall, AtDelay}
 use Rattle.cc_rules.specs.declared.process.TransactionCall.{TransactionCall}
 use Rattle.cc_rules.specs.declared.process.Waiting.TheVariants.{Caller, Nobody}
 
@@ -115,13 +119,18 @@ map-append f [] ys = refl
 map-append f (x ∷ xs) ys = ap (λ zs. f x ∷ zs) (map-append f xs ys)
 
 module _ {P : Type 0} (located : P → ℕ → List ℤ → List Grant → Type 0) where
+  -- no pending call that is kept has a deadline
+  pub untimed-kept : (s : State) (x : Contents P) → IsState located s x → AllUntimed x.pending
+  untimed-kept s x k = subst AllUntimed (sym k.pending) k.untimed
+
   -- it goes on at once
   pub state-go :
       (s : State) (x : Contents P) (p : ℕ) (process : P) (grant : Grant)
       → IsState located s x
+      → is_running (seat_at x.seats p).standing ≡ true
       → IsLocated located s p process
       → IsState located (record s { processes = grant_to s.processes p grant }) (went_on x p process grant)
-  state-go s x p process grant k is =
+  state-go s x p process grant k r is =
       record {
         seated = Seated-ready located s.processes x.seats p process grant (process_at s.processes p).serving k.seated is;
         few = rw length-set k.few;
@@ -132,16 +141,19 @@ module _ {P : Type 0} (located : P → ℕ → List ℤ → List Grant → Type 
         moment = k.moment;
         rising = k.rising;
         untimed = k.untimed;
+        timed = changed-timed x.seats x.pending x.deadlines p (with_ready process grant) (running-none (seat_at x.seats p).standing r) refl (untimed-kept s x k) k.timed;
       }
 
   -- it waits
   pub state-wait :
       (s : State) (x : Contents P) (p : ℕ) (process : P) (standing : ProcessStanding)
       → IsState located s x
+      → is_running (seat_at x.seats p).standing ≡ true
+      → deadline_of standing ≡ None
       → (is_over standing ≡ false) × (is_running standing ≡ false) × IsPlain standing
       → IsLocated located s p process
       → IsState located (record s { processes = with_standing s.processes p standing }) (waited x p process standing)
-  state-wait s x p process standing k w is =
+  state-wait s x p process standing k r none w is =
       record {
         seated = Seated-waiting located s.processes x.seats p process standing k.seated w is;
         few = rw length-set k.few;
@@ -152,19 +164,56 @@ module _ {P : Type 0} (located : P → ℕ → List ℤ → List Grant → Type 
         moment = k.moment;
         rising = k.rising;
         untimed = k.untimed;
+        timed = changed-timed x.seats x.pending x.deadlines p (with_waiting process standing) (running-none (seat_at x.seats p).standing r) none (untimed-kept s x k) k.timed;
       }
+
+  -- it waits until the wait is over
+  state-delayed :
+      (s : State) (x : Contents P) (p : Pid) (process : P) (deadline : ℕ)
+      → IsState located s x
+      → is_running (seat_at x.seats p.0).standing ≡ true
+      → p.0 < length x.seats
+      → IsLocated located s p.0 process
+      → IsState located (record s { processes = with_standing s.processes p.0 (AtDelay deadline) })
+      (record x { seats = set x.seats p.0 (with_waiting process (AtDelay deadline)); deadlines = with_deadline (deadline, who.Process p) x.deadlines })
+  state-delayed s x p process deadline k r lt is =
+      let standing : ProcessStanding = AtDelay deadline in
+      record {
+        seated = Seated-waiting located s.processes x.seats p.0 process standing k.seated (refl, refl, tt) is;
+        few = rw length-set k.few;
+        pending = k.pending;
+        served = λ i. k.served i ∙ ap (map served_call) (sym (serving-set s.processes p.0 i (record (process_at s.processes p.0) { standing = standing }) refl));
+        drawn = k.drawn;
+        input = k.input;
+        moment = k.moment;
+        rising = k.rising;
+        untimed = k.untimed;
+        timed = deadlines-more x.seats x.pending x.deadlines p (with_waiting process standing) deadline lt (running-none (seat_at x.seats p.0).standing r) refl k.timed;
+      }
+
+  pub state-delay :
+      (s : State) (x : Contents P) (p : Pid) (process : P) (wait : ℤ)
+      → IsState located s x
+      → is_running (seat_at x.seats p.0).standing ≡ true
+      → p.0 < length x.seats
+      → IsLocated located s p.0 process
+      → IsState located (record s { processes = with_standing s.processes p.0 (AtDelay (deadline_after s.moment wait)) }) (delayed_contents x p process wait)
+  state-delay s x p process wait k r lt is =
+      let F : ℕ → Type 0 = λ n. IsState located (record s { processes = with_standing s.processes p.0 (AtDelay (deadline_after n wait)) }) (delayed_contents x p process wait) in
+      subst F k.moment (state-delayed s x p process (deadline_after x.moment wait) k r lt is)
 
   -- a call is pending
   state-called :
       (s : State) (x : Contents P) (p : Pid) (process : P) (target : Pid) (trans : ℕ) (args : List ℤ)
       → IsState located s x
+      → is_running (seat_at x.seats p.0).standing ≡ true
       → IsLocated located s p.0 process
       → IsState located
       (called s (with_standing s.processes p.0 (AtCall (record { 0 = s.drawn }))) target trans args (Caller p))
       (called_contents (record x { pending = s.pending; drawn = s.drawn }) p process target trans args)
-  state-called s x p process target trans args k is =
+  state-called s x p process target trans args k r is =
       let standing : ProcessStanding = AtCall (record { 0 = s.drawn }) in
-      let w = state-wait s x p.0 process standing k (refl, refl, tt) is in
+      let w = state-wait s x p.0 process standing k r refl (refl, refl, tt) is in
       let call : TransactionCall = record { number = record { 0 = s.drawn }; target = target; trans = trans; args = args; waiting = Caller p } in
       record {
         seated = w.seated;
@@ -176,26 +225,31 @@ module _ {P : Type 0} (located : P → ℕ → List ℤ → List Grant → Type 
         moment = k.moment;
         rising = Rising-push 0 s.pending s.drawn call refl k.rising;
         untimed = AllUntimed-push s.pending call k.untimed tt;
+        timed =
+            deadlines-stay (set x.seats p.0 (with_waiting process standing)) (set x.seats p.0 (with_waiting process standing)) x.pending (s.pending ++ call ∷ []) x.deadlines
+            (λ i. refl) (untimed-kept s x k) (AllUntimed-push s.pending call k.untimed tt) w.timed;
       }
 
   pub state-call :
       (s : State) (x : Contents P) (p : Pid) (process : P) (target : Pid) (trans : ℕ) (args : List ℤ)
       → IsState located s x
+      → is_running (seat_at x.seats p.0).standing ≡ true
       → IsLocated located s p.0 process
       → IsState located
       (called s (with_standing s.processes p.0 (AtCall (record { 0 = s.drawn }))) target trans args (Caller p))
       (called_contents x p process target trans args)
-  state-call s x p process target trans args k is =
-      rw (k.pending, k.drawn) (state-called s x p process target trans args k is)
+  state-call s x p process target trans args k r is =
+      rw (k.pending, k.drawn) (state-called s x p process target trans args k r is)
 
   -- it sends
   pub state-send :
       (s : State) (x : Contents P) (p : Pid) (process : P) (target : Pid) (trans : ℕ) (args : List ℤ)
       → IsState located s x
+      → is_running (seat_at x.seats p.0).standing ≡ true
       → IsLocated located s p.0 process
       → IsState located (called s (grant_to s.processes p.0 Go) target trans args Nobody) (sent_contents x p process target trans args)
-  state-send s x p process target trans args k is =
-      let go = state-go s x p.0 process Go k is in
+  state-send s x p process target trans args k r is =
+      let go = state-go s x p.0 process Go k r is in
       let call : TransactionCall = record { number = record { 0 = s.drawn }; target = target; trans = trans; args = args; waiting = Nobody } in
       rw (k.pending, k.drawn)
       (record {
@@ -208,16 +262,20 @@ module _ {P : Type 0} (located : P → ℕ → List ℤ → List Grant → Type 
         moment = k.moment;
         rising = Rising-push 0 s.pending s.drawn call refl k.rising;
         untimed = AllUntimed-push s.pending call k.untimed tt;
+        timed =
+            deadlines-stay (set x.seats p.0 (with_ready process Go)) (set x.seats p.0 (with_ready process Go)) x.pending (s.pending ++ call ∷ []) x.deadlines
+            (λ i. refl) (untimed-kept s x k) (AllUntimed-push s.pending call k.untimed tt) go.timed;
       })
 
   -- it is over
   pub state-leave :
       (s : State) (x : Contents P) (p : ℕ) (standing : ProcessStanding)
       → IsState located s x
+      → is_running (seat_at x.seats p).standing ≡ true
       → p < length x.seats
       → (is_over standing ≡ true) × IsPlain standing
       → IsState located (ended s p standing) (left_contents x p standing)
-  state-leave s x p standing k lt w =
+  state-leave s x p standing k r lt w =
       let q : Process = record (process_at s.processes p) { standing = standing; serving = [] } in
       record {
         seated =
@@ -239,6 +297,15 @@ module _ {P : Type 0} (located : P → ℕ → List ℤ → List Grant → Type 
         moment = k.moment;
         rising = Rising-filter (λ call. not (is_for p call)) 0 s.pending s.drawn k.rising;
         untimed = AllUntimed-filter (λ call. not (is_for p call)) s.pending k.untimed;
+        timed =
+            deadlines-stay x.seats
+            (gone_seats (gone_seats (set x.seats p (with_left standing)) (map served_call (filter (is_for p) x.pending))) (x.served p))
+            x.pending (filter (λ call. not (is_for p call)) x.pending) x.deadlines
+            (λ i.
+            gone-deadline (gone_seats (set x.seats p (with_left standing)) (map served_call (filter (is_for p) x.pending))) (x.served p) i
+            ∙ gone-deadline (set x.seats p (with_left standing)) (map served_call (filter (is_for p) x.pending)) i
+            ∙ set-deadline x.seats p i (with_left standing) (over-none standing w.0 ∙ sym (running-none (seat_at x.seats p).standing r)))
+            (untimed-kept s x k) (AllUntimed-filter (λ call. not (is_for p call)) x.pending (untimed-kept s x k)) k.timed;
       }
     where
       left-served :
@@ -260,15 +327,16 @@ module _ {P : Type 0} (located : P → ℕ → List ℤ → List Grant → Type 
   pub state-make :
       (s : State) (x : Contents P) (p : ℕ) (process new : P) (kind : ℕ) (args : List ℤ)
       → IsState located s x
+      → is_running (seat_at x.seats p).standing ≡ true
       → length x.seats < most_processes
       → IsLocated located s p process
       → located new kind args []
       → IsState located
       (record s { processes = grant_to s.processes p (Made (record { 0 = length s.processes })) ++ made kind args ∷ [] })
       (made_contents x p process new)
-  state-make s x p process new kind args k lt is starts =
+  state-make s x p process new kind args k r lt is starts =
       let grant : Grant = Made (record { 0 = length s.processes }) in
-      let go = state-go s x p process grant k is in
+      let go = state-go s x p process grant k r is in
       rw (← Seated-length located s.processes x.seats k.seated)
       (record {
         seated =
@@ -282,6 +350,10 @@ module _ {P : Type 0} (located : P → ℕ → List ℤ → List Grant → Type 
         moment = k.moment;
         rising = k.rising;
         untimed = k.untimed;
+        timed =
+            deadlines-stay (set x.seats p (with_ready process grant)) (set x.seats p (with_ready process grant) ++ with_ready new Go ∷ []) x.pending x.pending x.deadlines
+            (λ i. push-deadline (set x.seats p (with_ready process grant)) (with_ready new Go) i refl)
+            (untimed-kept s x k) (untimed-kept s x k) go.timed;
       })
     where
       pushed-few : (seats : List (Seat P)) (seat : Seat P) → length seats < most_processes → length (seats ++ seat ∷ []) ≤ most_processes
@@ -291,12 +363,13 @@ module _ {P : Type 0} (located : P → ℕ → List ℤ → List Grant → Type 
   pub state-get :
       (s : State) (x : Contents P) (p : ℕ) (process : P)
       → IsState located s x
+      → is_running (seat_at x.seats p).standing ≡ true
       → IsLocated located s p process
       → IsState located
       (record s { processes = grant_to s.processes p (Byte (first_byte s.input)); input = rest_of s.input })
       (got_byte x p process)
-  state-get s x p process k is =
-      let go = state-go s x p process (Byte (slice_get x.input x.taken)) k is in
+  state-get s x p process k r is =
+      let go = state-go s x p process (Byte (slice_get x.input x.taken)) k r is in
       rw (← k.input, first-drop)
       (record {
         seated = go.seated;
@@ -308,4 +381,5 @@ module _ {P : Type 0} (located : P → ℕ → List ℤ → List Grant → Type 
         moment = k.moment;
         rising = k.rising;
         untimed = k.untimed;
+        timed = go.timed;
       })

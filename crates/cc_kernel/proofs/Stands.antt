@@ -1,16 +1,17 @@
 -- How a run stands, as the seats tell it.
-use Rattle.std.proofs.Common.{◌≡◌, ℕ, zero, suc, ℤ, Bool, true, false, ◌&&◌, ◌||◌, not, List, [], ◌∷◌, refl, sym, ap, ◌∙◌, nat_eq, ◌≢◌, ◌<◌, ◌≤◌, arith}
+use Rattle.std.proofs.Common.{◌≡◌, ℕ, zero, suc, ℤ, Bool, true, false, ◌&&◌, ◌||◌, not, List, [], ◌∷◌, refl, sym, ap, ◌∙◌, nat_eq, ◌≢◌, ◌<◌, ◌≤◌, arith, subst, Option, Some, None}
 use Rattle.std.proofs.lemmas.Bool.Decides.{nat_tests}
-use Rattle.std.specs.Prelude.{if◌then◌else◌}
+use Rattle.std.specs.Prelude.{if◌then◌else◌, is_some}
 use Rattle.std.specs.List.{list_all, list_any}
 use Rattle.cc_base.specs.Meaning.{Meaning}
 use Rattle.cc_base.specs.declared.request.Grant.{Grant}
-use Rattle.cc_kernel.proofs.Plain.{no-deadlines}
-use Rattle.cc_kernel.proofs.Seated.{plain-at, same-standing}
-use Rattle.cc_kernel.specs.Contract.{SomeRunning}
+use Rattle.cc_kernel.proofs.Least.{some-deadline}
+use Rattle.cc_kernel.proofs.Seated.{same-standing}
+use Rattle.cc_kernel.specs.Contract.{SomeRunning, least_of}
+use Rattle.cc_kernel.specs.Timed.{resting_standing}
 use Rattle.cc_kernel.specs.Seats.{seat_at}
 use Rattle.cc_kernel.specs.Store.{IsState, Contents, Seated}
-use Rattle.cc_rules.specs.Standing.{deadlines, least, standing_in}
+use Rattle.cc_rules.specs.Standing.{IsOver, deadlines, least, standing_in}
 use Rattle.cc_kernel.specs.declared.seat.Seat.{Seat}
 use Rattle.cc_rules.specs.Ends.{has_deadline, has_faulted, has_running, is_complete, is_unsettled}
 use Rattle.cc_rules.specs.Runs.{state_after}
@@ -32,17 +33,21 @@ shape complete running unsettled deadline spent faulted until =
     then Stuck
     else (if spent then Spent else (if not running && deadline then Idle until else Going)))
 
--- how it stands where it is settled and no deadline stands
-abbrev pub plain_shape : Bool → Bool → Bool → Bool → Standing
-plain_shape over running spent faulted =
-    if over then Ended faulted else (if running then (if spent then Spent else Going) else Stuck)
+-- how it stands where it is settled
+abbrev pub settled_shape : Bool → Bool → Bool → Bool → Option ℕ → Standing
+settled_shape over running spent faulted until =
+    if over then Ended faulted else (if running then (if spent then Spent else Going) else resting_standing spent until)
 
-plain-shape : (over running spent faulted : Bool) (until : ℕ) → shape over running false false spent faulted until ≡ plain_shape over running spent faulted
+settled-shape : (over running spent faulted : Bool) (ns : List ℕ) → shape over running false (is_some (least_of ns)) spent faulted (least ns) ≡ settled_shape over running spent faulted (least_of ns)
 unfolding shape
-plain-shape true running spent faulted until = refl
-plain-shape false true true faulted until = refl
-plain-shape false true false faulted until = refl
-plain-shape false false spent faulted until = refl
+settled-shape true running spent faulted ns = refl
+settled-shape false true true faulted [] = refl
+settled-shape false true true faulted (n ∷ ns) = refl
+settled-shape false true false faulted [] = refl
+settled-shape false true false faulted (n ∷ ns) = refl
+settled-shape false false spent faulted [] = refl
+settled-shape false false true faulted (n ∷ ns) = refl
+settled-shape false false false faulted (n ∷ ns) = refl
 
 shape-is :
     (m : Meaning) (s : State) (spent allowed : ℕ)
@@ -52,7 +57,8 @@ unfolding shape
 shape-is m s spent allowed = refl
 
 module _ {P : Type 0} (located : P → ℕ → List ℤ → List Grant → Type 0) where
-  all-same :
+  -- a test of standings holds of each process where it does of each seat
+  pub all-same :
       (f : ProcessStanding → Bool) (qs : List Process) (seats : List (Seat P))
       → Seated located qs seats
       → list_all (λ q. f q.standing) qs ≡ list_all (λ seat. f seat.standing) seats
@@ -95,36 +101,41 @@ module _ {P : Type 0} (located : P → ℕ → List ℤ → List Grant → Type 
       → SomeRunning m input events
   some-running m input events seats k some = running-at (state_after m input events).processes seats k some
 
-  -- how it stands, by the seats
+  -- how it stands, by the seats and the least deadline
   pub stands-as :
       (m : Meaning) (s : State) (x : Contents P) (spent allowed : ℕ)
       → IsState located s x
       → is_unsettled m s ≡ false
       → standing_in m s spent allowed
-      ≡ plain_shape (list_all (λ seat. is_over seat.standing) x.seats) (list_any (λ seat. is_running seat.standing) x.seats)
-      (nat_eq spent allowed) (list_any (λ seat. is_faulted seat.standing) x.seats)
+      ≡ settled_shape (list_all (λ seat. is_over seat.standing) x.seats) (list_any (λ seat. is_running seat.standing) x.seats)
+      (nat_eq spent allowed) (list_any (λ seat. is_faulted seat.standing) x.seats) (least_of (deadlines s))
   stands-as m s x spent allowed k quiet =
-      let plain = λ (p : ℕ). plain-at located s.processes x.seats p k.seated in
       let until = least (deadlines s) in
+      let o = least_of (deadlines s) in
       shape-is m s spent allowed
       ∙ ap (λ b. shape (is_complete s) (has_running s) b (has_deadline s) (nat_eq spent allowed) (has_faulted s) until) quiet
-      ∙ ap (λ b. shape (is_complete s) (has_running s) false b (nat_eq spent allowed) (has_faulted s) until) (no-deadlines s plain k.untimed)
-      ∙ plain-shape (is_complete s) (has_running s) (nat_eq spent allowed) (has_faulted s) until
-      ∙ ap (λ b. plain_shape b (has_running s) (nat_eq spent allowed) (has_faulted s)) (all-same is_over s.processes x.seats k.seated)
-      ∙ ap (λ b. plain_shape (list_all (λ seat. is_over seat.standing) x.seats) b (nat_eq spent allowed) (has_faulted s)) (any-same is_running s.processes x.seats k.seated)
-      ∙ ap (λ b. plain_shape (list_all (λ seat. is_over seat.standing) x.seats) (list_any (λ seat. is_running seat.standing) x.seats) (nat_eq spent allowed) b) (any-same is_faulted s.processes x.seats k.seated)
+      ∙ ap (λ b. shape (is_complete s) (has_running s) false b (nat_eq spent allowed) (has_faulted s) until) (some-deadline s)
+      ∙ settled-shape (is_complete s) (has_running s) (nat_eq spent allowed) (has_faulted s) (deadlines s)
+      ∙ ap (λ b. settled_shape b (has_running s) (nat_eq spent allowed) (has_faulted s) o) (all-same is_over s.processes x.seats k.seated)
+      ∙ ap (λ b. settled_shape (list_all (λ seat. is_over seat.standing) x.seats) b (nat_eq spent allowed) (has_faulted s) o) (any-same is_running s.processes x.seats k.seated)
+      ∙ ap (λ b. settled_shape (list_all (λ seat. is_over seat.standing) x.seats) (list_any (λ seat. is_running seat.standing) x.seats) (nat_eq spent allowed) b o) (any-same is_faulted s.processes x.seats k.seated)
 
-pub shape-spent : (over running spent faulted : Bool) → over ≡ false → running ≡ true → spent ≡ true → plain_shape over running spent faulted ≡ Spent
-shape-spent over running spent faulted h k l = rw (h, k, l) refl
+pub shape-spent : (over running spent faulted : Bool) (o : Option ℕ) → over ≡ false → running ≡ true → spent ≡ true → settled_shape over running spent faulted o ≡ Spent
+shape-spent over running spent faulted o h k l = rw (h, k, l) refl
 
-pub shape-going : (over running spent faulted : Bool) → over ≡ false → running ≡ true → spent ≡ false → plain_shape over running spent faulted ≡ Going
-shape-going over running spent faulted h k l = rw (h, k, l) refl
+pub shape-going : (over running spent faulted : Bool) (o : Option ℕ) → over ≡ false → running ≡ true → spent ≡ false → settled_shape over running spent faulted o ≡ Going
+shape-going over running spent faulted o h k l = rw (h, k, l) refl
 
-pub shape-stuck : (over running spent faulted : Bool) → over ≡ false → running ≡ false → plain_shape over running spent faulted ≡ Stuck
-shape-stuck over running spent faulted h k = rw (h, k) refl
+pub shape-resting : (over running spent faulted : Bool) (o : Option ℕ) → over ≡ false → running ≡ false → settled_shape over running spent faulted o ≡ resting_standing spent o
+shape-resting over running spent faulted o h k = rw (h, k) refl
 
-pub shape-ended : (over running spent faulted b : Bool) → over ≡ true → faulted ≡ b → plain_shape over running spent faulted ≡ Ended b
-shape-ended over running spent faulted b h k = rw (h, k) refl
+pub shape-ended : (over running spent faulted b : Bool) (o : Option ℕ) → over ≡ true → faulted ≡ b → settled_shape over running spent faulted o ≡ Ended b
+shape-ended over running spent faulted b o h k = rw (h, k) refl
+
+-- it is not idle where no deadline stands
+pub never-idle : (spent : Bool) (o : Option ℕ) (until : ℕ) → o ≡ None → resting_standing spent o ≡ Idle until → ⊥
+never-idle spent None until h e = cc
+never-idle spent (Some n) until h e = cc
 
 pub same-count : (a b c : ℕ) → a ≡ c → a ≡ b → nat_eq c b ≡ true
 same-count a b c e h = grind (arith, nat_tests)
@@ -173,13 +184,28 @@ pub running-goes :
 running-goes located m s x spent allowed i k quiet left h =
     let r : is_running (seat_at x.seats i).standing ≡ true = ap is_running (same-standing located s.processes x.seats i k.seated) ∙ h in
     stands-as located m s x spent allowed k quiet
-    ∙ shape-going _ _ _ _ (not-all-over x.seats i r) (any-running x.seats i r) left
+    ∙ shape-going _ _ _ _ _ (not-all-over x.seats i r) (any-running x.seats i r) left
 
-shape-left : (over running spent faulted : Bool) → plain_shape over running spent faulted ≡ Going → spent ≡ false
-shape-left true running spent faulted h = cc
-shape-left false true true faulted h = cc
-shape-left false true false faulted h = refl
-shape-left false false spent faulted h = cc
+shape-left : (over running spent faulted : Bool) (o : Option ℕ) → (IsOver (settled_shape over running spent faulted o) → ⊥) → spent ≡ false
+shape-left true running spent faulted o h = absurd (h tt)
+shape-left false true true faulted o h = absurd (h tt)
+shape-left false true false faulted o h = refl
+shape-left false false spent faulted None h = absurd (h tt)
+shape-left false false true faulted (Some until) h = absurd (h tt)
+shape-left false false false faulted (Some until) h = refl
+
+going-on : (x : Standing) → x ≡ Going → IsOver x → ⊥
+going-on x e over = subst IsOver e over
+
+-- a run that is not over has turns left
+pub still-left :
+    {P : Type 0} (located : P → ℕ → List ℤ → List Grant → Type 0) (m : Meaning) (s : State) (x : Contents P) (spent allowed : ℕ)
+    → IsState located s x
+    → is_unsettled m s ≡ false
+    → (IsOver (standing_in m s spent allowed) → ⊥)
+    → nat_eq spent allowed ≡ false
+still-left located m s x spent allowed k quiet h =
+    shape-left _ _ (nat_eq spent allowed) _ _ (λ over. h (subst IsOver (sym (stands-as located m s x spent allowed k quiet)) over))
 
 -- a run that goes on has turns left
 pub going-left :
@@ -188,7 +214,7 @@ pub going-left :
     → is_unsettled m s ≡ false
     → standing_in m s spent allowed ≡ Going
     → nat_eq spent allowed ≡ false
-going-left located m s x spent allowed k quiet h = shape-left _ _ (nat_eq spent allowed) _ (sym (stands-as located m s x spent allowed k quiet) ∙ h)
+going-left located m s x spent allowed k quiet h = still-left located m s x spent allowed k quiet (going-on (standing_in m s spent allowed) h)
 
 pub below-allowed : (spent turns allowed : ℕ) → spent ≡ turns → spent ≤ allowed → nat_eq turns allowed ≡ false → spent < allowed
 below-allowed spent turns allowed e le h = grind (arith, nat_tests)

@@ -1,5 +1,5 @@
 -- What a kernel is to its callers. Nothing here speaks of what it keeps inside.
-use Rattle.std.specs.Prelude.{◌≡◌, ◌≢◌, ℕ, ℤ, pos, Bool, true, false, List, [], ◌∷◌, ◌++◌, get_or, length, replicate}
+use Rattle.std.specs.Prelude.{◌≡◌, ◌≢◌, ℕ, ℤ, pos, Bool, true, false, List, [], ◌∷◌, ◌++◌, get_or, length, replicate, Option, None, Some}
 use Rattle.std.specs.List.{AllPass}
 use Rattle.cc_base.specs.Grants.{HasKind, IsNext, IsProper}
 use Rattle.cc_base.specs.Meaning.{Meaning}
@@ -9,9 +9,10 @@ use Rattle.cc_base.specs.declared.request.Request.{Request}
 use Rattle.cc_base.specs.declared.request.Request.TheVariants.{Pause, Create, Call, TimedCall, Send, Select, Delay, Reply, Print, Get, Done, Fault}
 use Rattle.cc_rules.specs.Events.{request_at, word_of}
 use Rattle.cc_rules.specs.Runs.{is_settling, state_after}
+use Rattle.cc_rules.specs.Standing.{least}
 use Rattle.cc_rules.specs.State.{is_running, process_at}
 use Rattle.cc_rules.specs.declared.event.Event.{Event}
-use Rattle.cc_rules.specs.declared.event.Event.TheVariants.{Ask}
+use Rattle.cc_rules.specs.declared.event.Event.TheVariants.{Ask, Time}
 
 -- for what a kernel is prepared
 pub data Prepared : Type 0 where
@@ -103,6 +104,11 @@ OthersStay m input before events outs p =
     → is_out_in outs q.0 ≡ true
     → process_at (state_after m input events).processes q.0 ≡ process_at (state_after m input before).processes q.0
 
+-- whoever is out is after the later events as it was after the earlier ones
+abbrev pub AllStay : Meaning → List ℕ → List Event → List Event → List Bool → Type 0
+AllStay m input before events outs =
+    (p : Pid) → is_out_in outs p.0 ≡ true → process_at (state_after m input events).processes p.0 ≡ process_at (state_after m input before).processes p.0
+
 -- a process that is out asks this
 abbrev pub AsksNow : Meaning → List ℕ → List Event → List Bool → Request → Type 0
 AsksNow m input events outs r =
@@ -113,3 +119,14 @@ pub record StepsOn (before events : List Event) (p : Pid) (r : Request) : Type 0
   pub settling : List Event
   pub journal : events ≡ before ++ Ask p (word_of r) ∷ settling
   pub settles : AllPass is_settling settling
+
+-- the journal went on with a Time of this moment, and then with events by which the machine settles
+pub record MovesOn (before events : List Event) (moment : ℕ) : Type 0 where
+  pub settling : List Event
+  pub journal : events ≡ before ++ Time moment ∷ settling
+  pub settles : AllPass is_settling settling
+
+-- the least of these numbers; none where there is none
+abbrev pub least_of : List ℕ → Option ℕ
+least_of [] = None
+least_of (n ∷ ns) = Some (least (n ∷ ns))

@@ -1,5 +1,5 @@
 -- When a kernel is one: its journal is a settled run whose last state is kept, and what is made for the next step is there.
-use Rattle.std.specs.Prelude.{◌≡◌, ℕ, ◌≤◌, ◌<◌, ℤ, false, List, []}
+use Rattle.std.specs.Prelude.{◌≡◌, ℕ, ◌≤◌, ◌<◌, ◌+◌, ℤ, false, List, [], length}
 use Rattle.cc_base.specs.Meaning.{Meaning}
 use Rattle.cc_base.specs.declared.request.Grant.{Grant}
 use Rattle.cc_kernel.specs.Contract.{Prepared, Nothing, Step, Making, Answering, Moment}
@@ -23,12 +23,13 @@ prepared_for (need.Making kind args process) = Making kind args
 prepared_for (need.Answering value zeros) = Answering value zeros
 prepared_for need.Moment = Moment
 
--- there is room for the events, the calls and the process of one step
+-- there is room for the events, the calls, the deadline and the process of one step
 abbrev pub HasRoom : {P : Type 0} → Store P → ℕ → Type 0
 HasRoom store events =
-    (3 ≤ events)
+    (4 + length store.deadlines.pairs ≤ events)
     × (0 < store.served.spare)
     × (0 < store.pending.spare)
+    × (0 < store.deadlines.spare)
     × (0 < store.seats.spare)
 
 -- there is room for the next step, and what was made for it is right

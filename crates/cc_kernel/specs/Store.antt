@@ -15,13 +15,17 @@ use Rattle.cc_kernel.specs.declared.seat.Whereabouts.TheVariants.{Ready, Out, Wa
 use Rattle.cc_kernel.specs.declared.seat.Seat.{Seat}
 use Rattle.cc_kernel.specs.declared.served.ServedCall.{ServedCall}
 use Rattle.cc_base.specs.Limits.{most_processes}
-use Rattle.cc_rules.specs.Effects.{is_for}
+use Rattle.cc_kernel.specs.Timed.{AreDeadlines}
+use Rattle.cc_rules.specs.Effects.{deadline_after, is_for}
 use Rattle.cc_rules.specs.State.{Process, State, is_over, is_running, process_at}
 use Rattle.cc_rules.specs.declared.process.ProcessStanding.{ProcessStanding}
 use Rattle.cc_rules.specs.declared.process.ProcessStanding.TheVariants.{Running, AtSelect, AtDelay, AtCall, Ended, Faulted}
 use Rattle.cc_rules.specs.declared.process.TransactionCall.{TransactionCall}
 use Rattle.cc_rules.specs.declared.process.Waiting.{Waiting}
 use Rattle.cc_rules.specs.declared.process.Waiting.TheVariants.{Nobody, Caller, Until}
+use Rattle.cc_timer.specs.Deadlines.{with_deadline, without_deadline}
+use Rattle.cc_timer.specs.declared.who.Who.{Who}
+use Rattle.cc_timer.specs.declared.who.Who.TheVariants as who
 
 -- what is kept, as lists and numbers
 pub record Contents (P : Type 0) : Type 0 where
@@ -34,6 +38,8 @@ pub record Contents (P : Type 0) : Type 0 where
   pub input : List ℕ
   pub taken : ℕ
   pub moment : ℕ
+  -- in the order in which they are due
+  pub deadlines : List (ℕ × Who)
 
 module _ {P : Type 0} where
   abbrev pub contents : Store P → Contents P
@@ -46,6 +52,7 @@ module _ {P : Type 0} where
         input = store.input;
         taken = store.taken;
         moment = store.moment;
+        deadlines = store.deadlines.pairs;
       }
 
   -- p goes on with this grant
@@ -55,6 +62,22 @@ module _ {P : Type 0} where
   -- p waits
   abbrev pub waited : Contents P → ℕ → P → ProcessStanding → Contents P
   waited x p process standing = record x { seats = set x.seats p (with_waiting process standing) }
+
+  -- p waits until the wait is over
+  abbrev pub delayed_contents : Contents P → Pid → P → ℤ → Contents P
+  delayed_contents x p process wait =
+      record x {
+        seats = set x.seats p.0 (with_waiting process (AtDelay (deadline_after x.moment wait)));
+        deadlines = with_deadline (deadline_after x.moment wait, who.Process p) x.deadlines;
+      }
+
+  -- p has waited until this deadline
+  abbrev pub expired_contents : Contents P → Pid → ℕ → Contents P
+  expired_contents x p deadline =
+      record x {
+        seats = set x.seats p.0 (woken (seat_at x.seats p.0) Go);
+        deadlines = without_deadline (deadline, who.Process p) x.deadlines;
+      }
 
   -- p waits for a new call
   abbrev pub called_contents : Contents P → Pid → P → Pid → ℕ → List ℤ → Contents P
@@ -125,11 +148,11 @@ module _ {P : Type 0} where
         served = one_more x.served p (served_call call);
       }
 
--- a process that stands so waits for no deadline
+-- a process that stands so waits for no alternative with a deadline
 abbrev pub IsPlain : ProcessStanding → Type 0
 IsPlain Running = Unit {0}
 IsPlain (AtSelect alts asked) = NoDelays alts
-IsPlain (AtDelay deadline) = ⊥
+IsPlain (AtDelay deadline) = Unit {0}
 IsPlain (AtCall call) = Unit {0}
 IsPlain Ended = Unit {0}
 IsPlain (Faulted kind) = Unit {0}
@@ -192,3 +215,4 @@ pub record IsState {P : Type 0} (located : P → ℕ → List ℤ → List Grant
   pub moment : x.moment ≡ s.moment
   pub rising : Rising 0 s.pending s.drawn
   pub untimed : AllUntimed s.pending
+  pub timed : AreDeadlines x.seats x.pending x.deadlines

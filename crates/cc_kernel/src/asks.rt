@@ -1,17 +1,18 @@
-ghost use Rattle.std.specs.Prelude.{◌≡◌, ◌<◌, ◌≤◌, All, Some, false, true, length, map, nat_eq, nat_lt, not, if◌then◌else◌};
+ghost use Rattle.std.specs.Prelude.{◌≡◌, ◌+◌, ◌<◌, ◌≤◌, All, Some, false, true, length, map, nat_eq, nat_lt, not, if◌then◌else◌};
 ghost use Rattle.std.specs.List.{filter};
 ghost use Rattle.cc_rules.specs.Choice.{call_numbered};
 ghost use Rattle.cc_rules.specs.Effects.{is_for};
 ghost use Rattle.cc_rules.specs.declared.process.TransactionCall.{TransactionCall};
 ghost use Rattle.cc_base.specs.declared.names.FaultKind.TheVariants.{TooMany};
 ghost use Rattle.cc_base.specs.declared.request.Grant.TheVariants.{Go, Gone};
-ghost use Rattle.cc_kernel.specs.Store.{called_contents, got_byte, left_contents, made_contents, contents, sent_contents, waited, went_on};
+ghost use Rattle.cc_kernel.specs.Store.{called_contents, delayed_contents, got_byte, left_contents, made_contents, contents, sent_contents, waited, went_on};
 ghost use Rattle.cc_kernel.specs.Seats.{answered_seats, gone_seats, is_ready, seat_at, served_call};
 ghost use Rattle.cc_kernel.specs.Stacks.{none_served, served_by};
 ghost use Rattle.cc_base.specs.Limits.{most_processes};
 ghost use Rattle.cc_rules.specs.State.{is_over};
 ghost use Rattle.cc_rules.specs.declared.process.ProcessStanding.TheVariants.{AtSelect, Faulted};
 
+use crate::deadlines::deadline_after;
 use crate::pending::Pending;
 use crate::seats::Seats;
 use crate::served::{Served, served_call};
@@ -19,6 +20,7 @@ use crate::store::Store;
 use cc_base::limits::MOST_PROCESSES;
 use cc_base::{Alts, Behave, CallId, Cells, FaultKind, Grant, Pid};
 use cc_rules::{ProcessStanding, TransactionCall, Waiting};
+use cc_timer::Who;
 
 /// The process goes on with this grant.
 pub(crate) fn go_on<P: Drop>(store: &mut Store<P>, pid: Pid, process: P, grant: Grant)
@@ -27,6 +29,7 @@ pub(crate) fn go_on<P: Drop>(store: &mut Store<P>, pid: Pid, process: P, grant: 
     ensures contents { contents store.new ≡ went_on (contents store.old) pid.0 process grant }
     ensures room { store.old.served.spare ≤ store.new.served.spare }
     ensures most { store.new.most ≡ store.old.most }
+    ensures deadlines { length store.new.deadlines.pairs ≤ length store.old.deadlines.pairs + 1 }
 {
     store.seats.put_ready(pid.0 as usize, process, grant);
 }
@@ -38,12 +41,29 @@ pub(crate) fn select<P: Drop>(store: &mut Store<P>, pid: Pid, process: P, alts: 
     ensures contents { contents store.new ≡ waited (contents store.old) pid.0 process (AtSelect alts store.old.moment) }
     ensures room { store.old.served.spare ≤ store.new.served.spare }
     ensures most { store.new.most ≡ store.old.most }
+    ensures deadlines { length store.new.deadlines.pairs ≤ length store.old.deadlines.pairs + 1 }
 {
     let standing = ProcessStanding::AtSelect {
         alts,
         asked: store.moment,
     };
     store.seats.put_waiting(pid.0 as usize, process, standing);
+}
+
+/// The process waits for so many milliseconds.
+pub(crate) fn delay<P: Drop>(store: &mut Store<P>, pid: Pid, process: P, wait: i64)
+    requires within { pid.0 < length store.old.seats.items }
+    requires idle { is_ready (seat_at store.old.seats.items pid.0) ≡ false }
+    requires room { 0 < store.old.deadlines.spare }
+    ensures contents { contents store.new ≡ delayed_contents (contents store.old) pid process wait }
+    ensures room { store.old.served.spare ≤ store.new.served.spare }
+    ensures most { store.new.most ≡ store.old.most }
+    ensures deadlines { length store.new.deadlines.pairs ≤ length store.old.deadlines.pairs + 1 }
+{
+    let deadline = deadline_after(store.moment, wait);
+    let standing = ProcessStanding::AtDelay { deadline };
+    store.seats.put_waiting(pid.0 as usize, process, standing);
+    store.deadlines.add(deadline, Who::Process(pid));
 }
 
 /// The process takes the next byte of the input.
@@ -53,6 +73,7 @@ pub(crate) fn get<P: Drop>(store: &mut Store<P>, pid: Pid, process: P)
     ensures contents { contents store.new ≡ got_byte (contents store.old) pid.0 process }
     ensures room { store.old.served.spare ≤ store.new.served.spare }
     ensures most { store.new.most ≡ store.old.most }
+    ensures deadlines { length store.new.deadlines.pairs ≤ length store.old.deadlines.pairs + 1 }
 {
     let byte = store.input.get(store.taken);
     store
@@ -80,6 +101,7 @@ pub(crate) fn call<P: Drop>(
     ensures contents { contents store.new ≡ (if is_over (seat_at store.old.seats.items target.0).standing then went_on (contents store.old) pid.0 process Gone else called_contents (contents store.old) pid process target trans args) }
     ensures room { store.old.served.spare ≤ store.new.served.spare }
     ensures most { store.new.most ≡ store.old.most }
+    ensures deadlines { length store.new.deadlines.pairs ≤ length store.old.deadlines.pairs + 1 }
 {
     if !store.seats.is_there(target) {
         store.seats.put_ready(pid.0 as usize, process, Grant::Gone);
@@ -118,6 +140,7 @@ pub(crate) fn send<P: Drop>(
     ensures contents { contents store.new ≡ (if is_over (seat_at store.old.seats.items target.0).standing then went_on (contents store.old) pid.0 process Go else sent_contents (contents store.old) pid process target trans args) }
     ensures room { store.old.served.spare ≤ store.new.served.spare }
     ensures most { store.new.most ≡ store.old.most }
+    ensures deadlines { length store.new.deadlines.pairs ≤ length store.old.deadlines.pairs + 1 }
 {
     let is_there = store.seats.is_there(target);
     store.seats.put_ready(pid.0 as usize, process, Grant::Go);
@@ -142,6 +165,7 @@ pub(crate) fn leave<P: Drop>(store: &mut Store<P>, pid: Pid, standing: ProcessSt
     ensures contents { contents store.new ≡ left_contents (contents store.old) pid.0 standing }
     ensures room { store.old.served.spare ≤ store.new.served.spare }
     ensures most { store.new.most ≡ store.old.most }
+    ensures deadlines { length store.new.deadlines.pairs ≤ length store.old.deadlines.pairs + 1 }
 {
     store.seats.put_left(pid.0 as usize, standing);
     drop_calls(&mut store.seats, &mut store.pending, pid);
@@ -189,6 +213,7 @@ pub(crate) fn create<P: Drop>(store: &mut Store<P>, pid: Pid, process: P, new: P
     ensures contents { contents store.new ≡ (if nat_lt (length store.old.seats.items) most_processes then made_contents (contents store.old) pid.0 process new else left_contents (contents store.old) pid.0 (Faulted TooMany)) }
     ensures room { store.old.served.spare ≤ store.new.served.spare }
     ensures most { store.new.most ≡ store.old.most }
+    ensures deadlines { length store.new.deadlines.pairs ≤ length store.old.deadlines.pairs + 1 }
 {
     let count = store.seats.len();
     if count >= MOST_PROCESSES as usize {

@@ -1,12 +1,16 @@
-ghost use Rattle.std.specs.Prelude.{◌≡◌, ◌≢◌, ℕ, ◌≤◌, ◌++◌, ◌⊎◌, [], ◌∷◌, false, true, IfOk, IfNone, IfSome, OnErr, OnOk, Some, nat_lt, set, slice_get};
-ghost use Rattle.cc_kernel.specs.Untimed.{HasNoDeadline};
-ghost use Rattle.cc_kernel.specs.Contract.{AllOut, AsksNow, IsOutWith, IsPreparedFor, IsReadyWith, Moment, Nothing, OthersStay, OutsRun, SameOuts, SomeRunning, StepsOn, is_out_in};
-ghost use Rattle.cc_rules.specs.Standing.{IsOver, standing_of};
-ghost use Rattle.cc_rules.specs.Events.{request_at};
+ghost use Rattle.std.specs.Prelude.{◌≡◌, ◌≢◌, ℕ, ◌≤◌, ◌++◌, ◌⊎◌, [], ◌∷◌, false, true, IfOk, IfNone, IfSome, OnErr, OnOk, nat_eq, nat_lt, set};
+ghost use Rattle.cc_kernel.specs.Performed.{IsPerformed};
+ghost use Rattle.cc_kernel.specs.Untimed.{AsksNoDeadline};
+ghost use Rattle.cc_kernel.specs.Contract.{AllOut, AllStay, AsksNow, IsOutWith, IsPreparedFor, IsReadyWith, Moment, MovesOn, Nothing, OthersStay, OutsRun, SameOuts, SomeRunning, StepsOn, is_out_in, least_of};
+ghost use Rattle.cc_kernel.specs.Timed.{resting_standing};
+ghost use Rattle.cc_rules.specs.Standing.{IsOver, deadlines, standing_of};
+ghost use Rattle.cc_rules.specs.Events.{is_legal, is_time, request_at};
 ghost use Rattle.cc_rules.specs.Faulted.{faults_from};
 ghost use Rattle.cc_rules.specs.Runs.{IsRun, IsSettledRun, bytes_of, printed, state_after, turns};
+ghost use Rattle.cc_rules.specs.declared.event.Event.TheVariants.{Time};
 ghost use Rattle.cc_rules.specs.declared.event.Standing.TheVariants.{Going, Idle};
 
+use crate::deadlines::Deadlines;
 use crate::faults::list_faults;
 use crate::need::Need;
 use crate::pending::Pending;
@@ -80,6 +84,7 @@ impl<B: Behave> Kernel<B> {
                 input,
                 taken: 0,
                 moment: 0,
+                deadlines: Deadlines::new(alloc),
                 most: 0,
             },
             need: Need::Nothing,
@@ -91,7 +96,7 @@ impl<B: Behave> Kernel<B> {
     /// it was.
     pub fn prepare(&mut self, next: Option<&Request>) -> Result<(), Memory>
         requires asks { IfSome next (λ r. AsksNow (B.means self.old.code) self.old.input self.old.journal self.old.outs r.now) }
-        requires no_deadline { IfSome next (λ r. HasNoDeadline r.now) }
+        requires performed { IfSome next (λ r. IsPerformed r.now) }
         ensures request { IfSome next.entry (λ r. OnOk result (IsPreparedFor self.new r.now)) }
         ensures time { IfNone next.entry (OnOk result (self.new.prepared ≡ Moment)) }
         ensures rest { self.new ≡ record self.old { prepared = self.new.prepared } }
@@ -111,7 +116,7 @@ impl<B: Behave> Kernel<B> {
         requires out { IsOutWith (B.means self.old.code) (B.at self.old.code) self.old.input self.old.journal self.old.outs pid.0 process }
         requires asks { request ≡ request_at (B.means self.old.code) (state_after (B.means self.old.code) self.old.input self.old.journal) pid }
         requires going { standing_of (B.means self.old.code) self.old.input self.old.journal self.old.turns ≡ Going }
-        requires no_deadline { HasNoDeadline request }
+        requires performed { IsPerformed request }
         ensures code { self.new.code ≡ self.old.code }
         ensures input { self.new.input ≡ self.old.input }
         ensures turns { self.new.turns ≡ self.old.turns }
@@ -169,12 +174,90 @@ impl<B: Behave> Kernel<B> {
         Some((Pid(at as u32), process, grant))
     }
 
-    /// How the run stands, which is a settled one of at most the allowed turns. It is never idle, since no request that it
-    /// performs has a deadline.
+    /// It is this moment, in milliseconds, and whoever has waited until it goes on.
+    pub fn at_moment(&mut self, moment: u64)
+        requires prepared { self.old.prepared ≡ Moment }
+        requires legal { is_legal (B.means self.old.code) (state_after (B.means self.old.code) self.old.input self.old.journal) (Time moment) ≡ true }
+        requires left { IsOver (standing_of (B.means self.old.code) self.old.input self.old.journal self.old.turns) → ⊥ }
+        ensures code { self.new.code ≡ self.old.code }
+        ensures input { self.new.input ≡ self.old.input }
+        ensures turns { self.new.turns ≡ self.old.turns }
+        ensures steps { MovesOn self.old.journal self.new.journal moment }
+        ensures within { turns self.new.journal ≤ self.new.turns }
+        ensures runs { IsRun (B.means self.new.code) self.new.input self.new.journal }
+        ensures settled { IsSettledRun (B.means self.new.code) self.new.input self.new.journal }
+        ensures outs { self.new.outs ≡ self.old.outs }
+        ensures prepared { self.new.prepared ≡ Nothing }
+        ensures printed { printed (B.means self.new.code) self.new.input self.new.journal ≡ printed (B.means self.old.code) self.old.input self.old.journal }
+        ensures others { AllStay (B.means self.new.code) self.new.input self.old.journal self.new.journal self.old.outs }
+    {
+        self.need = Need::Nothing;
+        self.store.moment = moment;
+        self.journal.add(Event::Time { moment });
+        self.spent += 1;
+        settle(
+            &*self.code,
+            self.alloc,
+            &mut self.store,
+            &mut self.journal,
+            None,
+        );
+    }
+
+    /// The moment, in milliseconds.
+    pub fn moment(&self) -> u64
+        ensures moment { result ≡ (state_after (B.means self.now.code) self.now.input self.now.journal).moment }
+    {
+        self.store.moment
+    }
+
+    /// The least deadline that stands, in milliseconds; none exactly where none stands.
+    pub fn earliest(&self) -> Option<u64>
+        ensures earliest { result ≡ least_of (deadlines (state_after (B.means self.now.code) self.now.input self.now.journal)) }
+    {
+        self.store.deadlines.earliest()
+    }
+
+    /// Whether it may be this moment, in milliseconds, by a Time: it is not past, and later than now where a process is running and the
+    /// last event was no Time, or a deadline stands where none is running.
+    pub fn time_allowed(&self, moment: u64) -> bool
+        ensures allowed { result ≡ is_legal (B.means self.now.code) (state_after (B.means self.now.code) self.now.input self.now.journal) (Time moment) }
+    {
+        if moment < self.store.moment {
+            return false;
+        }
+        if self.store.seats.all_over() {
+            return false;
+        }
+        if !self.store.seats.some_running() {
+            return self.store.deadlines.earliest().is_some();
+        }
+        if moment == self.store.moment {
+            return false;
+        }
+        !self.is_after_time()
+    }
+
+    // Whether the last event was a Time.
+    fn is_after_time(&self) -> bool
+        ensures { result ≡ (state_after (B.means self.now.code) self.now.input self.now.journal).after_time }
+    {
+        let count = self.journal.len();
+        if count == 0 {
+            return false;
+        }
+        match self.journal.get(count - 1) {
+            Some(event) => is_time(event),
+            None => false,
+        }
+    }
+
+    /// How the run stands, which is a settled one of at most the allowed turns. It is idle only where a request may have a
+    /// deadline.
     pub fn state(&self) -> Standing
         ensures standing { result ≡ standing_of (B.means self.now.code) self.now.input self.now.journal self.now.turns }
         ensures going { result ≡ Going → SomeRunning (B.means self.now.code) self.now.input self.now.journal }
-        ensures never_idle { (until : ℕ) → result ≢ Idle until }
+        ensures untimed { AsksNoDeadline (B.means self.now.code) → (until : ℕ) → result ≢ Idle until }
         ensures within { turns self.now.journal ≤ self.now.turns }
         ensures runs { IsRun (B.means self.now.code) self.now.input self.now.journal }
         ensures settled { IsSettledRun (B.means self.now.code) self.now.input self.now.journal }
@@ -185,12 +268,25 @@ impl<B: Behave> Kernel<B> {
             };
         }
         if !self.store.seats.some_running() {
-            return Standing::Stuck;
+            return self.at_rest();
         }
         if self.spent == self.turns {
             return Standing::Spent;
         }
         Standing::Going
+    }
+
+    // How the run stands, where no process is running and not all are over.
+    fn at_rest(&self) -> Standing
+        ensures { result ≡ resting_standing (nat_eq (turns self.now.journal) self.now.turns) (least_of (deadlines (state_after (B.means self.now.code) self.now.input self.now.journal))) }
+    {
+        let Some(until) = self.store.deadlines.earliest() else {
+            return Standing::Stuck;
+        };
+        if self.spent == self.turns {
+            return Standing::Spent;
+        }
+        Standing::Idle { until }
     }
 
     /// Whether a turn is left.
@@ -223,4 +319,10 @@ impl<B: Behave> Kernel<B> {
         list_faults(&self.store.seats, &mut faults);
         (self.journal, faults)
     }
+}
+
+fn is_time(event: &Event) -> bool
+    ensures { result ≡ is_time event.now }
+{
+    matches!(event, Event::Time { .. })
 }

@@ -22,18 +22,22 @@
 //! eligible. So settling looks at that process alone (`roused_by`): it takes the call that is chosen for the first of its
 //! alternatives for which one is eligible, or its immediate alternative where there is none. By that it goes on and a call is
 //! gone, so that again no process can take anything. Then a process waits at `terminate` exactly where that is one of its
-//! alternatives, and whether the collective end is due is told by the counts. So a step has at most three events: the Ask, one by
-//! which a process takes something, and the End.
+//! alternatives, and whether the collective end is due is told by the counts.
 //!
-//! The requests have no deadline (`specs/Untimed`): no timed call, no `delay`, and no `select` with a delay alternative. So
-//! nothing expires and no call is withdrawn.
+//! A process that is at a `delay` has a deadline. The deadlines that stand are kept in the order in which they are due (`Deadlines`,
+//! on cc_timer), and each is that of a process that waits for it (`AreDeadlines` in `specs/Timed`): it is added where the process
+//! begins to wait and taken out where it goes on. Before a step none of them has come. An Ask adds one at most, which may be over as
+//! it begins, and a Time may let many come. Where the collective end is not due, whoever has waited long enough goes on, the least
+//! deadline first. Who goes on opens nothing and takes nothing, so that no call can be taken by that, and the end does not come while
+//! one is running. So an Ask comes with two events at most, and a Time with no more than there are deadlines. Timed calls and delay
+//! alternatives of a `select` are not performed yet (`specs/Performed`), so that no call is withdrawn.
 //!
-//! All memory of a step is taken before it (`prepare`), so that no step is ever half done: room for three events, for one more
-//! pending call, one more served call and one more seat, the process that a Create makes, and the value of a Reply with as many
-//! zeros at its end as the value of any call has cells that a process took so far (`most` in `Store`): the call that will be
-//! answered is one of these.
+//! All memory of a step is taken before it (`prepare`), so that no step is ever half done: room for four events and one more for
+//! each deadline that stands, for one more pending call, one more served call, one more deadline and one more seat, the process that
+//! a Create makes, and the value of a Reply with as many zeros at its end as the value of any call has cells that a process took so
+//! far (`most` in `Store`): the call that will be answered is one of these.
 //!
-//! `pick` and `state` take constant time, and the process that has been ready for longest is picked. `prepare` takes the time to
+//! `pick` takes constant time and `state` that to find the least deadline, and the process that has been ready for longest is picked. `prepare` takes the time to
 //! copy what a Create or a Reply has. A step takes the time to compare the pending calls of the transactions that the process
 //! accepts at its `select`, or to drop the calls of a process that is over, those that wait for it and those that it serves. The
 //! End, which comes once, walks the seats.
@@ -42,6 +46,7 @@
 mod asks;
 mod choice;
 mod counts;
+mod deadlines;
 mod faults;
 mod kernel;
 mod need;

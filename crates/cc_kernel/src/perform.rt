@@ -1,5 +1,5 @@
-ghost use Rattle.std.specs.Prelude.{◌≡◌, ◌≢◌, MatchOption, ◌+◌, ◌<◌, ◌≤◌, ◌++◌, ℕ, ℤ, List, All, false, length, map, pos, replicate, set};
-ghost use Rattle.cc_kernel.specs.Untimed.{HasNoDeadline};
+ghost use Rattle.std.specs.Prelude.{◌≡◌, ◌≢◌, MatchOption, ◌+◌, ◌<◌, ◌≤◌, ◌++◌, ℕ, ℤ, List, All, false, true, length, map, pos, replicate, set};
+ghost use Rattle.cc_kernel.specs.Performed.{IsPerformed};
 ghost use Rattle.cc_kernel.specs.Contract.{Answering, Making, IsEnoughFor, SameOuts};
 ghost use Rattle.cc_kernel.specs.Invariant.{IsReadyFor, prepared_for};
 ghost use Rattle.cc_kernel.specs.Resting.{AllRest, RestBut, roused_by};
@@ -9,7 +9,7 @@ ghost use Rattle.cc_kernel.specs.declared.need.Need.TheVariants as variant;
 ghost use Rattle.cc_kernel.specs.Stacks.{AreKnown, AreWithin, served_by};
 ghost use Rattle.cc_rules.specs.Effects.{effect, replied};
 ghost use Rattle.cc_rules.specs.Runs.{bytes_of};
-ghost use Rattle.cc_rules.specs.State.{State};
+ghost use Rattle.cc_rules.specs.State.{State, is_running};
 
 use crate::asks;
 use crate::need::Need;
@@ -29,12 +29,14 @@ fn reply<B: Behave>(
 )
     requires within { pid.0 < length store.old.seats.items }
     requires idle { is_ready (seat_at store.old.seats.items pid.0) ≡ false }
+    requires running { is_running (seat_at store.old.seats.items pid.0).standing ≡ true }
     requires known { AreKnown (B.means code.now) (served_by store.old.served) }
     ensures state { (s : State) (asked : List ℤ) (zeros : ℕ) → value ≡ asked ++ replicate zeros (pos 0) → AreWithin (B.means code.now) zeros (served_by store.old.served) → IsState (B.at code.now) s (contents store.old) → IsLocated (B.at code.now) s pid.0 process → IsState (B.at code.now) (replied (B.means code.now) s pid.0 asked) (contents store.new) }
     ensures input { store.new.input ≡ store.old.input }
     ensures drawn { store.new.drawn ≡ store.old.drawn }
     ensures outs { map is_out store.new.seats.items ≡ set (map is_out store.old.seats.items) pid.0 false }
     ensures room { store.old.served.spare ≤ store.new.served.spare }
+    ensures deadlines { length store.new.deadlines.pairs ≤ length store.old.deadlines.pairs + 1 }
     ensures cells { AreWithin (B.means code.now) store.old.most (served_by store.old.served) → AreWithin (B.means code.now) store.new.most (served_by store.new.served) }
     ensures rest { AllRest (B.means code.now) (contents store.old) → AllRest (B.means code.now) (contents store.new) }
 {
@@ -57,11 +59,13 @@ fn change_store<B: Behave>(
 )
     requires within { pid.0 < length store.old.seats.items }
     requires idle { is_ready (seat_at store.old.seats.items pid.0) ≡ false }
+    requires running { is_running (seat_at store.old.seats.items pid.0).standing ≡ true }
     requires calls { 0 < store.old.pending.spare }
     requires seats { 0 < store.old.seats.spare }
+    requires deadlines { 0 < store.old.deadlines.spare }
     requires few { store.old.drawn < 4294967295 }
     requires last { All (λ call. call.number.0 < store.old.drawn) store.old.pending.items }
-    requires no_deadline { HasNoDeadline request }
+    requires performed { IsPerformed request }
     requires enough { IsEnoughFor (prepared_for need) request }
     requires ready { (events : ℕ) × IsReadyFor (B.means code.now) (B.at code.now) store.old events need }
     requires known { AreKnown (B.means code.now) (served_by store.old.served) }
@@ -70,6 +74,7 @@ fn change_store<B: Behave>(
     ensures drawn { store.new.drawn ≤ store.old.drawn + 1 }
     ensures outs { SameOuts (map is_out store.new.seats.items) (set (map is_out store.old.seats.items) pid.0 false) }
     ensures room { store.old.served.spare ≤ store.new.served.spare }
+    ensures deadlines { length store.new.deadlines.pairs ≤ length store.old.deadlines.pairs + 1 }
     ensures cells { AreWithin (B.means code.now) store.old.most (served_by store.old.served) → AreWithin (B.means code.now) store.new.most (served_by store.new.served) }
     ensures rest { AllRest (B.means code.now) (contents store.old) → RestBut (B.means code.now) (contents store.new) (roused_by pid request) }
 {
@@ -96,6 +101,7 @@ fn change_store<B: Behave>(
             args,
         } => asks::send(store, pid, process, target, trans, args),
         Request::Select { alts } => asks::select(store, pid, process, alts),
+        Request::Delay { wait } => asks::delay(store, pid, process, wait),
         Request::Reply { value: _value } => {
             let Some(value) = answer(need) else {
                 unreachable!()
@@ -121,11 +127,13 @@ pub(crate) fn perform<B: Behave>(
 ) -> Bytes
     requires within { pid.0 < length store.old.seats.items }
     requires idle { is_ready (seat_at store.old.seats.items pid.0) ≡ false }
+    requires running { is_running (seat_at store.old.seats.items pid.0).standing ≡ true }
     requires calls { 0 < store.old.pending.spare }
     requires seats { 0 < store.old.seats.spare }
+    requires deadlines { 0 < store.old.deadlines.spare }
     requires few { store.old.drawn < 4294967295 }
     requires last { All (λ call. call.number.0 < store.old.drawn) store.old.pending.items }
-    requires no_deadline { HasNoDeadline request }
+    requires performed { IsPerformed request }
     requires enough { IsEnoughFor (prepared_for need) request }
     requires ready { (events : ℕ) × IsReadyFor (B.means code.now) (B.at code.now) store.old events need }
     requires known { AreKnown (B.means code.now) (served_by store.old.served) }
@@ -134,6 +142,7 @@ pub(crate) fn perform<B: Behave>(
     ensures drawn { store.new.drawn ≤ store.old.drawn + 1 }
     ensures outs { SameOuts (map is_out store.new.seats.items) (set (map is_out store.old.seats.items) pid.0 false) }
     ensures room { store.old.served.spare ≤ store.new.served.spare }
+    ensures deadlines { length store.new.deadlines.pairs ≤ length store.old.deadlines.pairs + 1 }
     ensures cells { AreWithin (B.means code.now) store.old.most (served_by store.old.served) → AreWithin (B.means code.now) store.new.most (served_by store.new.served) }
     ensures rest { AllRest (B.means code.now) (contents store.old) → RestBut (B.means code.now) (contents store.new) (roused_by pid request) }
     ensures bytes { result ≡ bytes_of request }

@@ -14,7 +14,7 @@ use cc_rules::Journal;
 use std::alloc::Global;
 use std::sync::Arc;
 
-/// Makes room for the events, the calls and the process of one step.
+/// Makes room for the events, the calls, the deadline and the process of one step.
 pub(crate) fn make_room<P: Drop>(store: &mut Store<P>, journal: &mut Journal) -> Result<(), Memory>
     ensures contents { contents store.new ≡ contents store.old }
     ensures most { store.new.most ≡ store.old.most }
@@ -22,7 +22,8 @@ pub(crate) fn make_room<P: Drop>(store: &mut Store<P>, journal: &mut Journal) ->
     ensures ok { OnOk result (HasRoom store.new journal.new.spare) }
     ensures room { HasRoom store.old journal.old.spare → HasRoom store.new journal.new.spare }
 {
-    journal.reserve(3)?;
+    store.deadlines.reserve_one()?;
+    journal.reserve(store.deadlines.count() + 4)?;
     store.pending.reserve_one()?;
     store.served.reserve_one()?;
     store.seats.reserve_one()

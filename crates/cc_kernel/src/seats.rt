@@ -1,4 +1,4 @@
-ghost use Rattle.std.specs.Prelude.{◌≡◌, [], ◌∷◌, ◌++◌, ◌+◌, ◌<◌, ◌≤◌, length, map, set, ℕ, true, false, OnOk, OnErr, MatchOption, not, if◌then◌else◌};
+ghost use Rattle.std.specs.Prelude.{◌≡◌, ◌≢◌, [], ◌∷◌, ◌++◌, ◌+◌, ◌<◌, ◌≤◌, length, map, set, ℕ, true, false, OnOk, OnErr, MatchOption, not, if◌then◌else◌};
 ghost use Rattle.std.specs.List.{enumerate_from, filter, list_all, list_any};
 ghost use Rattle.cc_rules.specs.Effects.{waits_for};
 ghost use Rattle.cc_rules.specs.State.{is_faulted, is_over, is_running};
@@ -7,7 +7,7 @@ ghost use Rattle.cc_base.specs.Limits.{most_processes};
 ghost use Rattle.std.specs.VecDeque.{deque_capacity};
 ghost use Rattle.cc_kernel.specs.Counted.{Agrees, IsWaiting, all_may_end, ended_seat, may_terminate};
 ghost use Rattle.cc_kernel.specs.declared.seat.Whereabouts.TheVariants.{Ready};
-ghost use Rattle.cc_rules.specs.declared.process.ProcessStanding.TheVariants.{Ended};
+ghost use Rattle.cc_rules.specs.declared.process.ProcessStanding.TheVariants.{AtDelay, Ended};
 
 use crate::counts::{Counts, may_terminate};
 use crate::seat::{Seat, Whereabouts};
@@ -237,6 +237,16 @@ impl<P: Drop> Seats<P> {
         match self.standing(pid.0 as usize) {
             None => false,
             Some(standing) => !standing.is_over(),
+        }
+    }
+
+    /// The deadline of the process, where it is at a `delay`.
+    pub(crate) fn delay(&self, at: usize) -> Option<u64>
+        ensures { MatchOption result ((deadline : ℕ) → (seat_at self.now.items at).standing ≢ AtDelay deadline) (λ deadline. (seat_at self.now.items at).standing ≡ AtDelay deadline) }
+    {
+        match self.standing(at) {
+            Some(ProcessStanding::AtDelay { deadline }) => Some(*deadline),
+            _ => None,
         }
     }
 

@@ -1,15 +1,18 @@
-//! The machine settles: whoever was roused takes a call, or an immediate alternative where no call is eligible, and the collective
-//! end comes where it is due.
-ghost use Rattle.std.specs.Prelude.{◌≡◌, ◌<◌, ◌≤◌, IfNone, IfSome, MatchOption, Some, All, length, map};
-ghost use Rattle.cc_kernel.specs.Counted.{IsWaiting};
+//! The machine settles: whoever was roused takes a call, or an immediate alternative where no call is eligible. Then the collective
+//! end comes where it is due, and otherwise whoever has waited until its deadline goes on.
+ghost use Rattle.std.specs.Prelude.{◌≡◌, ◌+◌, ◌<◌, ◌≤◌, ℕ, false, true, IfNone, IfSome, MatchOption, Some, All, length, map};
+ghost use Rattle.cc_kernel.specs.Counted.{IsWaiting, all_may_end};
 ghost use Rattle.cc_kernel.specs.Resting.{AllRest, RestBut, RestsAt};
 ghost use Rattle.cc_kernel.specs.Seats.{is_out, seat_at};
 ghost use Rattle.cc_kernel.specs.Stacks.{AreWithin, served_by};
 ghost use Rattle.cc_kernel.specs.Settles.{GoesOn, Settles, TakesOne};
-ghost use Rattle.cc_kernel.specs.Store.{IsState, accepted_contents, chose_contents, contents, ended_contents};
+ghost use Rattle.cc_kernel.specs.Store.{IsState, accepted_contents, chose_contents, contents, ended_contents, expired_contents};
+ghost use Rattle.cc_kernel.specs.Timed.{stands_in};
 ghost use Rattle.cc_rules.specs.Choice.{call_numbered};
 ghost use Rattle.cc_rules.specs.State.{State};
+ghost use Rattle.cc_rules.specs.declared.process.ProcessStanding.TheVariants.{AtDelay};
 ghost use Rattle.cc_rules.specs.declared.process.TransactionCall.{TransactionCall};
+ghost use Rattle.cc_timer.specs.declared.who.Who.TheVariants as who;
 
 use crate::choice::{Taking, what_it_takes};
 use crate::pending::Pending;
@@ -17,6 +20,7 @@ use crate::served::served_call;
 use crate::store::Store;
 use cc_base::{Behave, CallId, Grant, Pid};
 use cc_rules::{Event, Journal};
+use cc_timer::Who;
 use std::alloc::Global;
 
 // The process takes the pending call of this number by its alternative.
@@ -29,6 +33,7 @@ fn accept<B: Behave>(code: &B, store: &mut Store<B::Proc>, pid: Pid, alt: u32, n
     ensures contents { (call : TransactionCall) → call_numbered store.old.pending.items number.0 ≡ Some call → contents store.new ≡ accepted_contents (contents store.old) pid.0 alt call }
     ensures input { store.new.input ≡ store.old.input }
     ensures drawn { store.new.drawn ≡ store.old.drawn }
+    ensures deadlines { store.new.deadlines ≡ store.old.deadlines }
     ensures cells { AreWithin (B.means code.now) store.old.most (served_by store.old.served) → AreWithin (B.means code.now) store.new.most (served_by store.new.served) }
 {
     let Some(call) = store.pending.take(number) else {
@@ -47,6 +52,7 @@ fn choose<P: Drop>(store: &mut Store<P>, pid: Pid, alt: u32)
     requires waits { IsWaiting (seat_at store.old.seats.items pid.0).standing }
     ensures contents { contents store.new ≡ chose_contents (contents store.old) pid.0 alt }
     ensures most { store.new.most ≡ store.old.most }
+    ensures deadlines { store.new.deadlines ≡ store.old.deadlines }
 {
     store.seats.wake(pid.0 as usize, Grant::Chose { alt });
 }
@@ -62,6 +68,7 @@ fn take_one<B: Behave>(code: &B, store: &mut Store<B::Proc>, pid: Pid) -> Option
     ensures outs { map is_out store.new.seats.items ≡ map is_out store.old.seats.items }
     ensures input { store.new.input ≡ store.old.input }
     ensures drawn { store.new.drawn ≡ store.old.drawn }
+    ensures deadlines { store.new.deadlines ≡ store.old.deadlines }
     ensures cells { AreWithin (B.means code.now) store.old.most (served_by store.old.served) → AreWithin (B.means code.now) store.new.most (served_by store.new.served) }
 {
     match what_it_takes(code, &store.seats, &store.pending, pid) {
@@ -88,16 +95,17 @@ fn take_roused<B: Behave>(
     journal: &mut Journal,
     roused: Option<Pid>,
 )
-    requires events { 2 ≤ journal.old.spare }
+    requires events { 0 < journal.old.spare }
     requires room { 0 < store.old.served.spare }
     requires known { All (λ call. call.trans < length (B.means code.now).shapes) store.old.pending.items }
     requires rest { RestBut (B.means code.now) (contents store.old) roused }
     ensures goes_on { (s : State) → IsState (B.at code.now) s (contents store.old) → GoesOn (B.means code.now) (B.at code.now) s journal.old.items journal.new.items (contents store.new) }
     ensures rest { AllRest (B.means code.now) (contents store.new) }
-    ensures spare { 0 < journal.new.spare }
+    ensures spare { journal.old.spare ≤ journal.new.spare + 1 }
     ensures outs { map is_out store.new.seats.items ≡ map is_out store.old.seats.items }
     ensures input { store.new.input ≡ store.old.input }
     ensures drawn { store.new.drawn ≡ store.old.drawn }
+    ensures deadlines { store.new.deadlines ≡ store.old.deadlines }
     ensures cells { AreWithin (B.means code.now) store.old.most (served_by store.old.served) → AreWithin (B.means code.now) store.new.most (served_by store.new.served) }
 {
     let Some(pid) = roused else {
@@ -120,6 +128,64 @@ fn end_all<B: Behave>(code: &B, alloc: Global, store: &mut Store<B::Proc>)
     store.pending = Pending::new(alloc);
 }
 
+// The process has waited until the deadline of its `delay`, and goes on.
+fn expire<P: Drop>(store: &mut Store<P>, pid: Pid)
+    requires delays { (deadline : ℕ) × ((seat_at store.old.seats.items pid.0).standing ≡ AtDelay deadline) }
+    requires stands { (deadline : ℕ) → (seat_at store.old.seats.items pid.0).standing ≡ AtDelay deadline → stands_in store.old.deadlines.pairs deadline (who.Process pid) ≡ true }
+    requires within { pid.0 < length store.old.seats.items }
+    requires waits { IsWaiting (seat_at store.old.seats.items pid.0).standing }
+    ensures contents { (deadline : ℕ) → (seat_at store.old.seats.items pid.0).standing ≡ AtDelay deadline → contents store.new ≡ expired_contents (contents store.old) pid deadline }
+    ensures most { store.new.most ≡ store.old.most }
+{
+    let Some(deadline) = store.seats.delay(pid.0 as usize) else {
+        unreachable!()
+    };
+    store.deadlines.remove(deadline, Who::Process(pid));
+    store.seats.wake(pid.0 as usize, Grant::Go);
+}
+
+// Whoever has the first deadline goes on, where its moment has come; none exactly where no moment has.
+fn expire_one<B: Behave>(code: &B, store: &mut Store<B::Proc>) -> Option<Event>
+    requires state { (s : State) × IsState (B.at code.now) s (contents store.old) }
+    ensures none { IfNone result (All (λ d. store.old.moment < d.0) store.old.deadlines.pairs) }
+    ensures same { IfNone result (store.new ≡ store.old) }
+    ensures takes { IfSome result (λ e. (s : State) → IsState (B.at code.now) s (contents store.old) → TakesOne (B.means code.now) (B.at code.now) s e (contents store.new)) }
+    ensures rest { AllRest (B.means code.now) (contents store.old) → AllRest (B.means code.now) (contents store.new) }
+    ensures fewer { IfSome result (λ e. length store.new.deadlines.pairs + 1 ≤ length store.old.deadlines.pairs) }
+    ensures stays { IfSome result (λ e. all_may_end store.new.seats.items ≡ false) }
+    ensures outs { map is_out store.new.seats.items ≡ map is_out store.old.seats.items }
+    ensures input { store.new.input ≡ store.old.input }
+    ensures drawn { store.new.drawn ≡ store.old.drawn }
+    ensures cells { AreWithin (B.means code.now) store.old.most (served_by store.old.served) → AreWithin (B.means code.now) store.new.most (served_by store.new.served) }
+{
+    match store.deadlines.first_due(store.moment) {
+        None => None,
+        Some(Who::Call(_)) => unreachable!(),
+        Some(Who::Process(pid)) => {
+            expire(store, pid);
+            Some(Event::Expire { pid, alt: 0 })
+        }
+    }
+}
+
+// Whoever has waited until its deadline goes on, and the journal says so.
+fn expire_due<B: Behave>(code: &B, store: &mut Store<B::Proc>, journal: &mut Journal)
+    requires state { (s : State) × IsState (B.at code.now) s (contents store.old) }
+    requires rest { AllRest (B.means code.now) (contents store.old) }
+    requires stays { all_may_end store.old.seats.items ≡ false }
+    requires events { length store.old.deadlines.pairs ≤ journal.old.spare }
+    ensures settles { (s : State) → IsState (B.at code.now) s (contents store.old) → Settles (B.means code.now) (B.at code.now) s journal.old.items journal.new.items (contents store.new) }
+    ensures rest { AllRest (B.means code.now) (contents store.new) }
+    ensures outs { map is_out store.new.seats.items ≡ map is_out store.old.seats.items }
+    ensures input { store.new.input ≡ store.old.input }
+    ensures drawn { store.new.drawn ≡ store.old.drawn }
+    ensures cells { AreWithin (B.means code.now) store.old.most (served_by store.old.served) → AreWithin (B.means code.now) store.new.most (served_by store.new.served) }
+{
+    while let Some(event) = expire_one(code, store) {
+        journal.add(event);
+    }
+}
+
 /// The machine settles, and the journal says so. No process but that which was roused can take anything before.
 pub(crate) fn settle<B: Behave>(
     code: &B,
@@ -128,7 +194,8 @@ pub(crate) fn settle<B: Behave>(
     journal: &mut Journal,
     roused: Option<Pid>,
 )
-    requires events { 2 ≤ journal.old.spare }
+    requires state { (s : State) × IsState (B.at code.now) s (contents store.old) }
+    requires events { 2 + length store.old.deadlines.pairs ≤ journal.old.spare }
     requires room { 0 < store.old.served.spare }
     requires known { All (λ call. call.trans < length (B.means code.now).shapes) store.old.pending.items }
     requires rest { RestBut (B.means code.now) (contents store.old) roused }
@@ -143,5 +210,7 @@ pub(crate) fn settle<B: Behave>(
     if store.seats.all_may_end() {
         end_all(code, alloc, store);
         journal.add(Event::End);
+        return;
     }
+    expire_due(code, store, journal);
 }

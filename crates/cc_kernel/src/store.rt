@@ -1,3 +1,4 @@
+use crate::deadlines::Deadlines;
 use crate::pending::Pending;
 use crate::seats::Seats;
 use crate::served::Served;
@@ -17,6 +18,7 @@ pub struct Store<P> {
     pub taken: usize,
     /// The moment, in milliseconds.
     pub moment: u64,
+    pub deadlines: Deadlines,
     /// The most cells that the value of a call has which a process took so far.
     pub most: usize,
 }

@@ -1,7 +1,8 @@
 ghost use Rattle.std.specs.Prelude.{◌≡◌, ◌≤◌, ◌⊎◌, ℕ, List, [], false, OnOk, OnErr, IfOk, IfErr, IsErrOf};
 ghost use Rattle.std.specs.List.{AllPass};
 ghost use Rattle.cc_base.specs.Meaning.{Meaning};
-ghost use Rattle.cc_kernel.specs.Untimed.{AsksNoDeadline, HasNoDeadline};
+ghost use Rattle.cc_kernel.specs.Performed.{IsPerformed};
+ghost use Rattle.cc_kernel.specs.Untimed.{AsksNoDeadline};
 ghost use Rattle.cc_kernel.specs.Contract.{IsOutWith, IsPreparedFor, SomeRunning};
 ghost use Rattle.cc_rules.specs.Standing.{standing_of};
 ghost use Rattle.cc_pool.specs.Driven.{GoesOn, GoesToItsEnd, IsRunOf, NoneOut, OnlyOut, StopsAtTheSink, StopsForMemory, is_untimed};
@@ -46,7 +47,7 @@ fn take_asking<B: Behave>(
     ensures out { IfOk result (λ r. IsOutWith (B.means kernel.old.code) (B.at kernel.old.code) kernel.old.input kernel.old.journal kernel.new.outs r.0.0 r.1) }
     ensures others { IfOk result (λ r. OnlyOut kernel.new.outs r.0.0) }
     ensures prepared { IfOk result (λ r. IsPreparedFor kernel.new r.2) }
-    ensures untimed { IfOk result (λ r. HasNoDeadline r.2) }
+    ensures performed { IfOk result (λ r. IsPerformed r.2) }
 {
     let Some((pid, mut process, grant)) = kernel.pick() else {
         unreachable!()

@@ -2,3 +2,4 @@ pub mod Counts
 pub mod Grown
 mod Names
 mod Pieces
+pub mod Scripts

@@ -4,6 +4,7 @@ pub mod MemShelf
 pub mod MemSink
 pub mod MemSource
 pub mod Misses
+pub mod ScriptClock
 pub mod Shelf
 pub mod StepClock
 pub mod System

@@ -6,7 +6,7 @@ use cc_world::{DirShelf, RealClock, StdSink, StdSource};
 use std::io::ErrorKind;
 use std::process::ExitCode;
 
-/// The status for want of memory.
+/// The status where memory ran out.
 const MEMORY: u8 = 9;
 
 fn main(rt: HostRuntime) -> ExitCode {

@@ -1,4 +1,4 @@
-ghost use Rattle.cc_kernel.specs.Untimed.{AsksNoDeadline};
+ghost use Rattle.cc_kernel.specs.Performed.{AsksPerformed};
 ghost use Rattle.std.specs.Prelude.{◌≡◌};
 
 use cc_base::{Behave, Bytes, CallId, Cells, FaultKind, Memory, Pid};
@@ -336,7 +336,7 @@ fn slice<B: Behave>(
     alloc: Global,
     printed: &mut Bytes,
 ) -> Result<Option<Pid>, Memory>
-    requires no_deadline { AsksNoDeadline (B.means kernel.old.code) }
+    requires performed { AsksPerformed (B.means kernel.old.code) }
     ensures code { kernel.new.code ≡ kernel.old.code }
 {
     let Some((pid, mut process, grant)) = kernel.pick() else {
@@ -356,7 +356,7 @@ fn go_on<B: Behave>(
     printed: &mut Bytes,
     pids: &[u32],
 ) -> Result<bool, Memory>
-    requires no_deadline { AsksNoDeadline (B.means kernel.old.code) }
+    requires performed { AsksPerformed (B.means kernel.old.code) }
 {
     for pid in pids {
         if slice(kernel, alloc, printed)? != Some(Pid(*pid)) {

@@ -6,3 +6,5 @@ pub mod Tables
 pub mod lemmas
 -- a ring of processes that call one another
 pub mod Ring
+-- programs that follow a table and may wait
+pub mod Delays

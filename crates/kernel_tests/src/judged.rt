@@ -1,7 +1,7 @@
 //! Journals of one worker, judged event by event by the machine over plain lists: each is taken whole, and is refused after a
 //! change.
 use crate::tables::{Script, Step};
-use cc_base::{Bytes, CallId, Cells, Memory, Pid};
+use cc_base::{Behave, Bytes, CallId, Cells, Memory, Pid};
 use cc_plain::{Plain, StepError};
 use cc_pool::drive;
 use cc_rules::{Event, Journal, Standing, Word};
@@ -43,11 +43,11 @@ pub(crate) fn journal(alloc: Global, code: &Arc<Script>) -> Result<Vec<Event>, M
 }
 
 /// A stepper that took these events; none where one of them was refused.
-pub(crate) fn after(
+pub(crate) fn after<B: Behave>(
     alloc: Global,
-    code: &Arc<Script>,
+    code: &Arc<B>,
     events: &[Event],
-) -> Result<Option<Plain<Script>>, Memory> {
+) -> Result<Option<Plain<B>>, Memory> {
     let mut plain = Plain::open(alloc, Arc::try_clone(code)?, Bytes::new(alloc))?;
     for event in events {
         if plain.events().len() >= 1_000 {
@@ -62,9 +62,9 @@ pub(crate) fn after(
     Ok(Some(plain))
 }
 
-pub(crate) fn is_taken(
+pub(crate) fn is_taken<B: Behave>(
     alloc: Global,
-    code: &Arc<Script>,
+    code: &Arc<B>,
     events: &[Event],
 ) -> Result<bool, Memory> {
     Ok(after(alloc, code, events)?.is_some())

@@ -1,7 +1,7 @@
 //! Runs of programs that follow a table, on the kernel and on a pool of one worker. The process that has been ready for longest goes
 //! on first.
 ghost use Rattle.std.specs.Prelude.{◌≡◌};
-ghost use Rattle.cc_kernel.specs.Untimed.{AsksNoDeadline};
+ghost use Rattle.cc_kernel.specs.Performed.{AsksPerformed};
 
 use crate::tables::{Script, Step};
 use cc_base::{Behave, Bytes, CallId, Cells, FaultKind, Grant, Memory, Pid};
@@ -15,9 +15,9 @@ use std::sync::Arc;
 
 /// What a run printed, and the cells and bytes that its processes were given, where no byte was left -1.
 #[derive(Drop)]
-struct Seen {
-    printed: Bytes,
-    given: Cells,
+pub(crate) struct Seen {
+    pub(crate) printed: Bytes,
+    pub(crate) given: Cells,
 }
 
 fn see(seen: &mut Seen, grant: &Grant) -> Result<(), Memory> {
@@ -41,7 +41,7 @@ fn see_all(seen: &mut Seen, cells: &Cells) -> Result<(), Memory> {
 
 /// A process that is ready goes on with its grant, and what it asks is done. False where none is ready.
 fn go_on<B: Behave>(kernel: &mut Kernel<B>, alloc: Global, seen: &mut Seen) -> Result<bool, Memory>
-    requires no_deadline { AsksNoDeadline (B.means kernel.old.code) }
+    requires performed { AsksPerformed (B.means kernel.old.code) }
     ensures code { kernel.new.code ≡ kernel.old.code }
 {
     let Some((pid, mut process, grant)) = kernel.pick() else {
@@ -56,13 +56,14 @@ fn go_on<B: Behave>(kernel: &mut Kernel<B>, alloc: Global, seen: &mut Seen) -> R
 }
 
 /// At most so many slices.
-fn go_on_for<B: Behave>(
+pub(crate) fn go_on_for<B: Behave>(
     kernel: &mut Kernel<B>,
     alloc: Global,
     seen: &mut Seen,
     slices: u32,
 ) -> Result<(), Memory>
-    requires no_deadline { AsksNoDeadline (B.means kernel.old.code) }
+    requires performed { AsksPerformed (B.means kernel.old.code) }
+    ensures code { kernel.new.code ≡ kernel.old.code }
 {
     for _ in 0..slices {
         if !go_on(kernel, alloc, seen)? {
@@ -135,7 +136,7 @@ fn accept(pid: u32, call: u32) -> Event {
     }
 }
 
-fn has_events(journal: &Journal, events: &[Event]) -> bool {
+pub(crate) fn has_events(journal: &Journal, events: &[Event]) -> bool {
     for (at, event) in events.iter().enumerate() {
         if journal.get(at) != Some(event) {
             return false;

@@ -3,6 +3,8 @@
 #![tactic(auto)]
 
 #[cfg(test)]
+mod delays;
+#[cfg(test)]
 mod judged;
 #[cfg(test)]
 mod kernel;

@@ -40,8 +40,8 @@ impl Script {
         self.second.as_slice()
     }
 
-    // The step of this index; none past the last.
-    fn step(&self, kind: u32, at: usize) -> Option<Step>
+    /// The step of this index; none past the last.
+    pub(crate) fn step(&self, kind: u32, at: usize) -> Option<Step>
         ensures { result ≡ slice_get (steps_of self.now.main.items self.now.first.items self.now.second.items kind) at }
     {
         self.steps(kind).get(at).copied()
@@ -144,8 +144,8 @@ fn alternatives(alloc: Global, number: u8, trans: u32) -> Result<Alts, Memory>
     }
 }
 
-// The request of a step.
-fn request(alloc: Global, step: Step) -> Result<Request, Memory>
+/// The request of a step.
+pub(crate) fn request(alloc: Global, step: Step) -> Result<Request, Memory>
     ensures { IfOk result (λ r. r ≡ request_of step.0 step.1 step.2 step.3) }
 {
     let (word, number, second, cell) = step;

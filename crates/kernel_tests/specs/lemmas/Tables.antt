@@ -10,6 +10,7 @@ use Rattle.cc_base.specs.Requests.{HasSites, IsAlternativeOf, IsAtSite, IsReques
 use Rattle.cc_base.specs.declared.alternatives.Alt.{Alt}
 use Rattle.cc_base.specs.declared.alternatives.Alt.TheVariants.{Now, Terminate}
 use Rattle.cc_base.specs.declared.request.Request.TheVariants.{Select}
+use Rattle.cc_kernel.specs.Performed.{AsksPerformed, IsPerformed}
 use Rattle.cc_kernel.specs.Untimed.{AsksNoDeadline, HasNoDeadline, NoDelays}
 use Rattle.kernel_tests.specs.Tables.{Step, accept_of, alternatives_of, asked, rank_at, request_of, scripted, steps_of, trans_of}
 use Rattle.cc_rules.specs.declared.event.Word.{Word}
@@ -68,7 +69,7 @@ module _ (main first second : List Step) where
   at-sites (suc (suc zero)) b = two-of AtSite (0, accept_of (trans_of b)) (1, Terminate) (accept-at b) tt
   at-sites (suc (suc (suc number))) b = two-of AtSite (0, accept_of 0) (1, accept_of 1) (accept-at false) (accept-at true)
 
-  is-request : (w : Word) (number : ℕ) (b : Bool) (cell : ℤ) → IsRequestOf (scripted main first second) (request_of w number b cell)
+  pub is-request : (w : Word) (number : ℕ) (b : Bool) (cell : ℤ) → IsRequestOf (scripted main first second) (request_of w number b cell)
   is-request word.Pause number b cell = tt
   is-request word.Create number true cell = refl
   is-request word.Create number false cell = refl
@@ -93,7 +94,7 @@ module _ (main first second : List Step) where
       each None = tt
       each (Some step) = is-request step.0 step.1 step.2 step.3
 
-  names-sites : (w : Word) (number : ℕ) (b : Bool) (cell : ℤ) → NamesSites 2 (request_of w number b cell)
+  pub names-sites : (w : Word) (number : ℕ) (b : Bool) (cell : ℤ) → NamesSites 2 (request_of w number b cell)
   names-sites word.Pause number b cell = tt
   names-sites word.Create number b cell = tt
   names-sites word.Call number b cell = tt
@@ -150,3 +151,25 @@ module _ (main first second : List Step) where
       each : (step : Option Step) → HasNoDeadline (asked step)
       each None = tt
       each (Some step) = no-deadline step.0 step.1 step.2 step.3
+
+  pub performed : (w : Word) (number : ℕ) (b : Bool) (cell : ℤ) → IsPerformed (request_of w number b cell)
+  performed word.Pause number b cell = tt
+  performed word.Create number b cell = tt
+  performed word.Call number b cell = tt
+  performed word.TimedCall number b cell = tt
+  performed word.Send number b cell = tt
+  performed word.Select number b cell = no-delays number b
+  performed word.Delay number b cell = tt
+  performed word.Reply number b cell = tt
+  performed word.Print number b cell = tt
+  performed word.Get number b cell = tt
+  performed word.Done number b cell = tt
+  performed word.Fault number b cell = tt
+
+  -- what it asks can be performed
+  pub scripted_performed : AsksPerformed (scripted main first second)
+  scripted_performed kind args grants exists proper = each (slice_get (steps_of main first second kind) (length grants - 1))
+    where
+      each : (step : Option Step) → IsPerformed (asked step)
+      each None = tt
+      each (Some step) = performed step.0 step.1 step.2 step.3

@@ -1,24 +1,26 @@
-use Rattle.std.proofs.Common.{refl, ap, sym, subst, ◌∙◌, map, Some}
+use Rattle.std.proofs.Common.{rules, refl, ap, sym, subst, ◌∙◌, map, w64, Some}
 use Rattle.std.specs.Prelude.{slice_get}
 use Rattle.std.proofs.lemmas.List.{map-set}
 use Rattle.cc_base.specs.declared.names.FaultKind.TheVariants.{TooMany}
 use Rattle.cc_base.specs.declared.request.Grant.TheVariants.{Go, Byte}
 use Rattle.cc_kernel.proofs.Requests.{answer-made, cells-call, cells-create, cells-left, cells-send, outs-left, start-made, state-asks-call, state-asks-create, state-asks-select, state-asks-send, outs-call, outs-create, outs-send, same-outs}
-use Rattle.cc_kernel.proofs.Simulates.{state-get, state-go, state-leave}
-use Rattle.cc_kernel.proofs.Resting.{rest-call, rest-create, rest-left, rest-ready, rest-select, rest-send}
+use Rattle.cc_kernel.proofs.Simulates.{state-delay, state-get, state-go, state-leave}
+use Rattle.cc_kernel.proofs.Resting.{rest-call, rest-create, rest-delay, rest-left, rest-ready, rest-select, rest-send}
 use Rattle.cc_kernel.specs.Resting.{AllRest, RestBut}
-use Rattle.cc_kernel.specs.Store.{Contents, contents}
+use Rattle.std.proofs.lemmas.Int.{to_z-of_z}
+use Rattle.cc_kernel.specs.Store.{Contents, contents, delayed_contents}
 use Rattle.cc_kernel.specs.Contract.{is_out_in}
 use Rattle.cc_kernel.proofs.Stacks.{within-same}
 use Rattle.cc_kernel.specs.Seats.{is_out, with_ready, with_waiting}
-use Rattle.cc_rules.specs.declared.process.ProcessStanding.TheVariants.{AtSelect, Ended, Faulted}
+use Rattle.cc_rules.specs.declared.process.ProcessStanding.TheVariants.{AtDelay, AtSelect, Ended, Faulted}
+use Rattle.cc_rules.specs.Effects.{deadline_after}
 use Rattle.cc_kernel.specs.Stacks.{served_by}
 use Rattle.cc_kernel.proofs.perform.change_store.Goals as goal
 
 pub returns-in-Print-clause-state : goal.returns-in-Print-clause-state
 returns-in-Print-clause-state g c s k a =
     rw (c.in-Print.is, c.go_on.ensures.contents)
-    (state-go (g.B.Behave.at c.args.code.now) s (contents c.args.store.now) c.args.pid.0 c.args.process Go k a)
+    (state-go (g.B.Behave.at c.args.code.now) s (contents c.args.store.now) c.args.pid.0 c.args.process Go k c.requires.running a)
 
 pub returns-in-Print-clause-outs : goal.returns-in-Print-clause-outs
 returns-in-Print-clause-outs g c =
@@ -27,7 +29,7 @@ returns-in-Print-clause-outs g c =
 pub returns-in-Pause-clause-state : goal.returns-in-Pause-clause-state
 returns-in-Pause-clause-state g c s k a =
     rw (c.in-Pause.is, c.go_on-in-Pause.ensures.contents)
-    (state-go (g.B.Behave.at c.args.code.now) s (contents c.args.store.now) c.args.pid.0 c.args.process Go k a)
+    (state-go (g.B.Behave.at c.args.code.now) s (contents c.args.store.now) c.args.pid.0 c.args.process Go k c.requires.running a)
 
 pub returns-in-Pause-clause-outs : goal.returns-in-Pause-clause-outs
 returns-in-Pause-clause-outs g c =
@@ -37,7 +39,7 @@ pub returns-in-Some-clause-state : goal.returns-in-Some-clause-state
 returns-in-Some-clause-state g c s k a =
     let made = c.in-Some.ensures in
     rw (c.in-Create.is, c.create.ensures.contents)
-    (state-asks-create (g.B.Behave.means c.args.code.now) (g.B.Behave.at c.args.code.now) s (contents c.args.store.now) c.args.pid c.args.process c.in-Some.new c.in-Create._kind c.in-Create._args k c.requires.within a
+    (state-asks-create (g.B.Behave.means c.args.code.now) (g.B.Behave.at c.args.code.now) s (contents c.args.store.now) c.args.pid c.args.process c.in-Some.new c.in-Create._kind c.in-Create._args k c.requires.running c.requires.within a
     (start-made (g.B.Behave.means c.args.code.now) (g.B.Behave.at c.args.code.now) c.args.store.now c.requires.ready.0 c.args.need made.0 c.in-Create._kind made.1 c.in-Create._args c.in-Some.new made.2
     (rw c.in-Create.is at c.requires.enough)
     c.requires.ready.1))
@@ -49,7 +51,7 @@ returns-in-Some-clause-outs g c =
 pub returns-in-Call-clause-state : goal.returns-in-Call-clause-state
 returns-in-Call-clause-state g c s k a =
     rw (c.in-Call.is, c.call.ensures.contents)
-    (state-asks-call (g.B.Behave.means c.args.code.now) (g.B.Behave.at c.args.code.now) s (contents c.args.store.now) c.args.pid c.args.process c.in-Call.target c.in-Call.trans c.in-Call.args k a)
+    (state-asks-call (g.B.Behave.means c.args.code.now) (g.B.Behave.at c.args.code.now) s (contents c.args.store.now) c.args.pid c.args.process c.in-Call.target c.in-Call.trans c.in-Call.args k c.requires.running a)
 
 pub returns-in-Call-clause-outs : goal.returns-in-Call-clause-outs
 returns-in-Call-clause-outs g c =
@@ -58,7 +60,7 @@ returns-in-Call-clause-outs g c =
 pub returns-in-Send-clause-state : goal.returns-in-Send-clause-state
 returns-in-Send-clause-state g c s k a =
     rw (c.in-Send.is, c.send.ensures.contents)
-    (state-asks-send (g.B.Behave.means c.args.code.now) (g.B.Behave.at c.args.code.now) s (contents c.args.store.now) c.args.pid c.args.process c.in-Send.target c.in-Send.trans c.in-Send.args k a)
+    (state-asks-send (g.B.Behave.means c.args.code.now) (g.B.Behave.at c.args.code.now) s (contents c.args.store.now) c.args.pid c.args.process c.in-Send.target c.in-Send.trans c.in-Send.args k c.requires.running a)
 
 pub returns-in-Send-clause-outs : goal.returns-in-Send-clause-outs
 returns-in-Send-clause-outs g c =
@@ -66,13 +68,39 @@ returns-in-Send-clause-outs g c =
 
 pub returns-in-Select-clause-state : goal.returns-in-Select-clause-state
 returns-in-Select-clause-state g c s k a =
-    let untimed = rw c.in-Select.is at c.requires.no_deadline in
+    let untimed = rw c.in-Select.is at c.requires.performed in
     rw (c.in-Select.is, c.select.ensures.contents)
-    (state-asks-select (g.B.Behave.means c.args.code.now) (g.B.Behave.at c.args.code.now) s (contents c.args.store.now) c.args.pid.0 c.args.process c.in-Select.alts k untimed a)
+    (state-asks-select (g.B.Behave.means c.args.code.now) (g.B.Behave.at c.args.code.now) s (contents c.args.store.now) c.args.pid.0 c.args.process c.in-Select.alts k c.requires.running untimed a)
 
 pub returns-in-Select-clause-outs : goal.returns-in-Select-clause-outs
 returns-in-Select-clause-outs g c =
     same-outs _ _ (ap (λ x. map is_out x.seats) c.select.ensures.contents ∙ map-set is_out c.args.store.now.seats.items c.args.pid.0 (with_waiting c.args.process (AtSelect c.in-Select.alts c.args.store.now.moment)))
+
+pub returns-in-Delay-clause-state : goal.returns-in-Delay-clause-state
+returns-in-Delay-clause-state g c s k a =
+    let is = c.delay.ensures.contents ∙ ap (delayed_contents (contents c.args.store.now) c.args.pid c.args.process) (to_z-of_z w64 c.in-Delay.wait (search rules)) in
+    rw (c.in-Delay.is, is)
+    (state-delay (g.B.Behave.at c.args.code.now) s (contents c.args.store.now) c.args.pid c.args.process c.in-Delay.wait k c.requires.running c.requires.within a)
+
+pub returns-in-Delay-clause-outs : goal.returns-in-Delay-clause-outs
+returns-in-Delay-clause-outs g c =
+    let is = c.delay.ensures.contents ∙ ap (delayed_contents (contents c.args.store.now) c.args.pid c.args.process) (to_z-of_z w64 c.in-Delay.wait (search rules)) in
+    same-outs _ _ (ap (λ x. map is_out x.seats) is ∙ map-set is_out c.args.store.now.seats.items c.args.pid.0 (with_waiting c.args.process (AtDelay (deadline_after c.args.store.now.moment c.in-Delay.wait))))
+
+pub returns-in-Delay-clause-rest : goal.returns-in-Delay-clause-rest
+returns-in-Delay-clause-rest g c all =
+    let m = g.B.Behave.means c.args.code.now in
+    let x = contents c.args.store.now in
+    let is = c.delay.ensures.contents ∙ ap (delayed_contents (contents c.args.store.now) c.args.pid c.args.process) (to_z-of_z w64 c.in-Delay.wait (search rules)) in
+    let F : Contents g.row.B-Proc.Denot → Type 0 = λ y. AllRest m y in
+    rw c.in-Delay.is (subst F (sym is) (rest-delay m x c.args.pid c.args.process c.in-Delay.wait all))
+
+pub returns-in-Delay-clause-cells : goal.returns-in-Delay-clause-cells
+returns-in-Delay-clause-cells g c h =
+    let m = g.B.Behave.means c.args.code.now in
+    let old = c.args.store.now in
+    let new = c.delay.new.store in
+    within-same m old.most new.most (served_by old.served) (served_by new.served) c.delay.ensures.most (ap (λ y. y.served) c.delay.ensures.contents) h
 
 pub returns-in-Some-answer-clause-state : goal.returns-in-Some-answer-clause-state
 returns-in-Some-answer-clause-state g c s k a =
@@ -84,7 +112,7 @@ returns-in-Some-answer-clause-state g c s k a =
 pub returns-in-Get-clause-state : goal.returns-in-Get-clause-state
 returns-in-Get-clause-state g c s k a =
     rw (c.in-Get.is, c.get.ensures.contents)
-    (state-get (g.B.Behave.at c.args.code.now) s (contents c.args.store.now) c.args.pid.0 c.args.process k a)
+    (state-get (g.B.Behave.at c.args.code.now) s (contents c.args.store.now) c.args.pid.0 c.args.process k c.requires.running a)
 
 pub returns-in-Get-clause-outs : goal.returns-in-Get-clause-outs
 returns-in-Get-clause-outs g c =
@@ -93,7 +121,7 @@ returns-in-Get-clause-outs g c =
 pub returns-in-Done-clause-state : goal.returns-in-Done-clause-state
 returns-in-Done-clause-state g c s k a =
     rw (c.in-Done.is, c.leave.ensures.contents)
-    (state-leave (g.B.Behave.at c.args.code.now) s (contents c.args.store.now) c.args.pid.0 Ended k c.requires.within (refl, tt))
+    (state-leave (g.B.Behave.at c.args.code.now) s (contents c.args.store.now) c.args.pid.0 Ended k c.requires.running c.requires.within (refl, tt))
 
 pub returns-in-Done-clause-outs : goal.returns-in-Done-clause-outs
 returns-in-Done-clause-outs g c =
@@ -102,7 +130,7 @@ returns-in-Done-clause-outs g c =
 pub returns-in-Fault-clause-state : goal.returns-in-Fault-clause-state
 returns-in-Fault-clause-state g c s k a =
     rw (c.in-Fault.is, c.leave-in-Fault.ensures.contents)
-    (state-leave (g.B.Behave.at c.args.code.now) s (contents c.args.store.now) c.args.pid.0 (Faulted c.in-Fault.kind) k c.requires.within (refl, tt))
+    (state-leave (g.B.Behave.at c.args.code.now) s (contents c.args.store.now) c.args.pid.0 (Faulted c.in-Fault.kind) k c.requires.running c.requires.within (refl, tt))
 
 pub returns-in-Fault-clause-outs : goal.returns-in-Fault-clause-outs
 returns-in-Fault-clause-outs g c =

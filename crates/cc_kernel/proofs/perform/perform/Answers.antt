@@ -14,7 +14,7 @@ use Rattle.cc_kernel.proofs.perform.perform.Goals as goal
 pub returns-in-Print-clause-state : goal.returns-in-Print-clause-state
 returns-in-Print-clause-state g c s k a =
     rw (c.in-Print.is, c.go_on.ensures.contents)
-    (state-go (g.B.Behave.at c.args.code.now) s (contents c.args.store.now) c.args.pid.0 c.args.process Go k a)
+    (state-go (g.B.Behave.at c.args.code.now) s (contents c.args.store.now) c.args.pid.0 c.args.process Go k c.requires.running a)
 
 pub returns-in-Print-clause-outs : goal.returns-in-Print-clause-outs
 returns-in-Print-clause-outs g c =

@@ -16,7 +16,7 @@ pub returns-in_default-clause-state : goal.returns-in_default-clause-state
 returns-in_default-clause-state g c s asked extra e all k is =
     rw (c.put_ready.ensures.items, c.in_default.ensures.call.0)
     (state-reply-none (g.B.Behave.means c.args.code.now) (g.B.Behave.at c.args.code.now) s (contents c.args.store.now) c.args.pid.0 c.args.process asked
-    k c.requires.within c.in_default.ensures.call.1 is)
+    k c.requires.running c.requires.within c.in_default.ensures.call.1 is)
 
 pub returns-in_default-clause-outs : goal.returns-in_default-clause-outs
 returns-in_default-clause-outs g c =
@@ -35,7 +35,7 @@ returns-clause-state g c s asked extra e all k is =
     rw (c.answer.ensures, c.put_ready.ensures.items, c.cut.ensures, e, ← n, cut-zeros (value_cells (g.B.Behave.means c.args.code.now) c.in-Some.call.trans) asked extra (value_cells (g.B.Behave.means c.args.code.now) c.in-Some.call.trans) few (omega arith))
     (state-reply (g.B.Behave.means c.args.code.now) (g.B.Behave.at c.args.code.now) s (contents c.args.store.now) c.args.pid.0 c.args.process asked
     c.in-Some.call (served_by c.take_innermost.new.self)
-    k c.requires.within c.in-Some.ensures.call is)
+    k c.requires.running c.requires.within c.in-Some.ensures.call is)
 
 pub returns-clause-outs : goal.returns-clause-outs
 returns-clause-outs g c =

@@ -1,6 +1,6 @@
 use Rattle.std.proofs.Common.{ap, sym, subst, ◌∙◌, map}
-use Rattle.cc_kernel.proofs.Ending.{outs-ended, settles-calm, settles-ended}
-use Rattle.cc_kernel.proofs.Resting.{due-rests, rest-calm, rest-ended}
+use Rattle.cc_kernel.proofs.Ending.{outs-ended, settles-after, settles-ended}
+use Rattle.cc_kernel.proofs.Resting.{due-rests, rest-ended}
 use Rattle.cc_kernel.proofs.Stacks.{within-where}
 use Rattle.cc_kernel.specs.Choice.{seat_waits}
 use Rattle.cc_kernel.specs.Seats.{is_out}
@@ -33,16 +33,20 @@ returns-then-all_may_end-clause-outs g c = λ s k.
     ∙ outs-ended m (g.B.Behave.at c.args.code.now) (after m s went.more) (contents c.take_roused.new.store) went.state
     ∙ c.take_roused.ensures.outs
 
-pub returns-else-all_may_end-clause-settles : goal.returns-else-all_may_end-clause-settles
-returns-else-all_may_end-clause-settles g c = λ s k.
+pub expire_due-requires-clause-state : goal.expire_due-requires-clause-state
+expire_due-requires-clause-state g c =
+    let m = g.B.Behave.means c.args.code.now in
+    let st = c.requires.state in
+    let went = c.take_roused.ensures.goes_on st.0 st.1 in
+    (after m st.0 went.more, went.state)
+
+pub returns-clause-settles : goal.returns-clause-settles
+returns-clause-settles g c = λ s k.
     let m = g.B.Behave.means c.args.code.now in
     let located = g.B.Behave.at c.args.code.now in
-    let x = contents c.take_roused.new.store in
-    let due = due-rests m x c.take_roused.ensures.rest ∙ sym c.all_may_end.ensures ∙ c.if-all_may_end.false in
-    settles-calm m located s c.args.journal.now.items c.take_roused.new.journal.items x
-    (c.take_roused.ensures.goes_on s k)
-    (λ s' k'. rest-calm m located s' x k' c.take_roused.ensures.rest)
-    due
+    let went = c.take_roused.ensures.goes_on s k in
+    settles-after m located s c.args.journal.now.items c.take_roused.new.journal.items c.expire_due.new.journal.items (contents c.take_roused.new.store) (contents c.expire_due.new.store) went
+    (c.expire_due.ensures.settles (after m s went.more) went.state)
 
 pub returns-then-all_may_end-clause-cells : goal.returns-then-all_may_end-clause-cells
 returns-then-all_may_end-clause-cells g c h =

@@ -1,4 +1,4 @@
-use Rattle.cc_pool.proofs.Asking.{asked-now, located-now, none-waits, untimed-now}
+use Rattle.cc_pool.proofs.Asking.{asked-now, located-now, none-waits, performed-now}
 use Rattle.cc_pool.proofs.driving.take_asking.Goals as goal
 
 pub unreachable-requires : goal.unreachable-requires
@@ -17,10 +17,10 @@ prepare-requires-clause-asks g c =
           (c.in_ok-request.ensures k.code _ _ c.in-Some.ensures.ready.front c.in-Some.ensures.ready.there c.in-Some.ensures.ready.is_next)),
     )
 
-pub prepare-requires-clause-no_deadline : goal.prepare-requires-clause-no_deadline
-prepare-requires-clause-no_deadline g c =
+pub prepare-requires-clause-performed : goal.prepare-requires-clause-performed
+prepare-requires-clause-performed g c =
     let k = c.args.kernel.now in
-    untimed-now (g.B.Behave.means k.code) (g.B.Behave.at k.code) k.input k.journal c.in-Some.pid.0 c.in-Some.process c.go.new.this c.in-Some.grant c.in_ok-request.request
+    performed-now (g.B.Behave.means k.code) (g.B.Behave.at k.code) k.input k.journal c.in-Some.pid.0 c.in-Some.process c.go.new.this c.in-Some.grant c.in_ok-request.request
     c.in-Some.ensures.ready c.requires.no_deadline
     (c.in_ok-request.ensures k.code _ _ c.in-Some.ensures.ready.front c.in-Some.ensures.ready.there c.in-Some.ensures.ready.is_next)
 
@@ -33,9 +33,9 @@ returns-clause-out g c =
           (c.in_ok-request.ensures k.code _ _ c.in-Some.ensures.ready.front c.in-Some.ensures.ready.there c.in-Some.ensures.ready.is_next),
     )
 
-pub returns-clause-untimed : goal.returns-clause-untimed
-returns-clause-untimed g c =
+pub returns-clause-performed : goal.returns-clause-performed
+returns-clause-performed g c =
     let k = c.args.kernel.now in
-    untimed-now (g.B.Behave.means k.code) (g.B.Behave.at k.code) k.input k.journal c.in-Some.pid.0 c.in-Some.process c.go.new.this c.in-Some.grant c.in_ok-request.request
+    performed-now (g.B.Behave.means k.code) (g.B.Behave.at k.code) k.input k.journal c.in-Some.pid.0 c.in-Some.process c.go.new.this c.in-Some.grant c.in_ok-request.request
     c.in-Some.ensures.ready c.requires.no_deadline
     (c.in_ok-request.ensures k.code _ _ c.in-Some.ensures.ready.front c.in-Some.ensures.ready.there c.in-Some.ensures.ready.is_next)

@@ -3,7 +3,7 @@ use Rattle.cc_kernel.proofs.Keeping.{all-served, kept-commit, legal-now}
 use Rattle.cc_kernel.proofs.Known.{known-pending, known-served}
 use Rattle.cc_kernel.proofs.Others.{others-stay, outs-run, prints-more, steps-on}
 use Rattle.cc_kernel.proofs.Outs.{out-at, out-not-ready}
-use Rattle.cc_kernel.proofs.Seated.{Seated-at, out-running}
+use Rattle.cc_kernel.proofs.Seated.{Seated-at, out-running, same-standing}
 use Rattle.cc_kernel.proofs.Serving.{Rising-below}
 use Rattle.cc_kernel.proofs.Stands.{below-allowed, going-left}
 use Rattle.cc_kernel.specs.Store.{contents}
@@ -16,7 +16,7 @@ use Rattle.cc_rules.specs.Events.{word_of}
 use Rattle.cc_rules.specs.declared.process.TransactionCall.{TransactionCall}
 use Rattle.std.specs.List.{All}
 use Rattle.cc_rules.specs.Runs.{IsRun, state_after, turns}
-use Rattle.cc_rules.specs.State.{process_at}
+use Rattle.cc_rules.specs.State.{is_running, process_at}
 use Rattle.cc_kernel.proofs.kernel.Kernel.commit.Goals as goal
 
 pub perform-bytes-requires-clause-ready : goal.perform-bytes-requires-clause-ready
@@ -45,6 +45,24 @@ perform-bytes-requires-clause-last g c =
     let st = c.self.invariant.state in
     rw (st.pending, st.drawn) (Rising-below 0 s.pending s.drawn st.rising)
 
+pub perform-bytes-requires-clause-running : goal.perform-bytes-requires-clause-running
+perform-bytes-requires-clause-running g c =
+    let k = c.self.inside in
+    let s = state_after (g.B.Behave.means k.code.value) k.store.input k.journal.items in
+    let seated = c.self.invariant.state.seated in
+    let out = rw (← c.self.view_is) at c.requires.out in
+    ap is_running (same-standing (g.B.Behave.at k.code.value) s.processes k.store.seats.items c.args.pid.0 seated)
+    ∙ outs-run (g.B.Behave.at k.code.value) s.processes k.store.seats.items seated c.args.pid.0 out.0
+
+pub settle-requires-clause-state : goal.settle-requires-clause-state
+settle-requires-clause-state g c =
+    let k = c.self.inside in
+    let m = g.B.Behave.means k.code.value in
+    let s = state_after m k.store.input k.journal.items in
+    let out = rw (← c.self.view_is) at c.requires.out in
+    let served = rw c.deref.ensures at c.perform-bytes.ensures.state in
+    rw c.deref-2.ensures (effect m s c.args.pid c.args.request, served s c.self.invariant.state out.1)
+
 pub settle-requires-clause-events : goal.settle-requires-clause-events
 settle-requires-clause-events g c =
     let k = c.self.inside in
@@ -52,7 +70,8 @@ settle-requires-clause-events g c =
     let room = has-room (g.B.Behave.means k.code.value) (g.B.Behave.at k.code.value) k.store k.journal.spare k.need c.args.request prepared c.self.invariant.ready in
     let a = c.add.ensures.spare in
     let r = room.0 in
-    omega (arith, a, r)
+    let d = c.perform-bytes.ensures.deadlines in
+    omega (arith, a, r, d)
 
 pub settle-requires-clause-room : goal.settle-requires-clause-room
 settle-requires-clause-room g c =
