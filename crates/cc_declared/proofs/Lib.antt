@@ -1,0 +1,10 @@
+pub mod Laws
+pub mod Announces
+pub mod Cells
+pub mod ConstantWalks
+pub mod Entered
+pub mod FieldWalks
+pub mod Firsts
+pub mod Keys
+pub mod TypeWalks
+pub mod Values

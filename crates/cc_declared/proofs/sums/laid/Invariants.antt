@@ -1,0 +1,10 @@
+use Rattle.std.proofs.Common.{◌≡◌, ◌+◌, ◌≤◌, ◌++◌, drop}
+use Rattle.cc_typed.specs.Table.{cells_in_all}
+use Rattle.cc_faults.specs.Declarations.{laid_out}
+use Rattle.cc_declared.proofs.sums.laid.Given as goal
+
+abbrev pub invariant-loop-t : goal.invariant-loop-t
+invariant-loop-t l =
+    (l.sum + cells_in_all l.structures (drop l.t-index l.types) ≡ cells_in_all l.structures l.types)
+    × (l.fields ++ laid_out l.structures l.sum (drop l.t-index l.types) ≡ laid_out l.structures 0 l.types)
+    × l.sum ≤ 65536

@@ -1,0 +1,5 @@
+pub mod Announcing
+pub mod Entering
+pub mod Lists
+pub mod Undone
+pub mod Walks
