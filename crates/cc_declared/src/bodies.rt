@@ -20,8 +20,10 @@ use crate::names::Hidden;
 use crate::seen::Seen;
 use crate::visible::Visible;
 use cc_base::Memory;
-use cc_faults::{FaultAt, Identifier, KindHead, Parameter, Signature, TypeKind, TypeName, note};
-use cc_rows::{Least, as_many, as_many_names, fresh, with_specification};
+use cc_faults::{
+    FaultAt, Identifier, KindHead, Least, Parameter, Signature, TypeKind, TypeName, as_many,
+    as_many_names, fresh, note, with_specification,
+};
 use cc_typed::DataType;
 use sqlite_items::{Items, at};
 use std::alloc::Global;

@@ -16,8 +16,9 @@ use crate::lists::{keep, noted_fault, unless_taken};
 use crate::names::{entry, is_here, is_there, put_at};
 use crate::visible::Visible;
 use cc_base::{FaultKind, NumberType, Operator, arithmetic};
-use cc_faults::{Constant, ConstantValue, FaultAt, Identifier, Length, Meaning, TypeKind, note};
-use cc_rows::{Least, fresh};
+use cc_faults::{
+    Constant, ConstantValue, FaultAt, Identifier, Least, Length, Meaning, TypeKind, fresh, note,
+};
 use cc_typed::DataType;
 
 /// The scope of the items in their order.

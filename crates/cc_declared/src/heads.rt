@@ -13,8 +13,9 @@ use crate::sums::are_within;
 use crate::visible::Visible;
 use cc_base::Memory;
 use cc_base::limits::MOST_PARAMETER_CELLS;
-use cc_faults::{FaultAt, Identifier, Parameter, Signature, Transaction, TypeKind, TypeName};
-use cc_rows::Least;
+use cc_faults::{
+    FaultAt, Identifier, Least, Parameter, Signature, Transaction, TypeKind, TypeName,
+};
 use cc_typed::DataType;
 use sqlite_items::Items;
 use std::alloc::Global;

@@ -7,12 +7,10 @@ ghost use Rattle.cc_faults.specs.Faults.{noted};
 ghost use Rattle.cc_faults.specs.Judged.{answer, answer_then, faults, faults_then};
 ghost use Rattle.cc_faults.specs.Rows as row;
 
-use crate::leaves::wrong;
 use crate::visible::Visible;
 use cc_base::Place;
 use cc_base::limits::MOST_ELEMENTS;
-use cc_faults::{Answer, Identifier, Length, Meaning, TypeKind, note};
-use cc_rows::{Least, visible};
+use cc_faults::{Answer, Identifier, Least, Length, Meaning, TypeKind, note, visible, wrong};
 
 /// Whether an array may have so many elements.
 pub(crate) fn is_length(number: i64) -> bool

@@ -6,8 +6,7 @@ ghost use Rattle.cc_faults.specs.Faults.{noted};
 ghost use Rattle.cc_faults.specs.declared.fault.TypeKind.TheVariants as kind;
 
 use cc_base::{Memory, Place};
-use cc_faults::{FaultAt, Identifier, TypeKind, note};
-use cc_rows::Least;
+use cc_faults::{FaultAt, Identifier, Least, TypeKind, note};
 use cc_typed::DataType;
 use sqlite_items::Items;
 

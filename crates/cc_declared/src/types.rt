@@ -10,11 +10,11 @@ ghost use Rattle.cc_faults.specs.Rows as row;
 ghost use Rattle.cc_faults.specs.Statements.{local_type};
 ghost use Rattle.cc_typed.specs.declared.types.DataType.{DataType};
 
-use crate::leaves::wrong;
 use crate::visible::Visible;
 use cc_base::limits::MOST_TYPE_CELLS;
-use cc_faults::{Answer, Field, Identifier, Length, Local, LocalForm, TypeKind, TypeName};
-use cc_rows::{Least, pair};
+use cc_faults::{
+    Answer, Field, Identifier, Least, Length, Local, LocalForm, TypeKind, TypeName, pair, wrong,
+};
 use cc_typed::{DataType, Structure, cells_in};
 
 /// An array of so many.

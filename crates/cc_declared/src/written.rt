@@ -7,11 +7,10 @@ ghost use Rattle.cc_faults.specs.Rows.{int_of, value_type, visible_type, written
 ghost use Rattle.cc_faults.specs.Scopes.{entry_at};
 ghost use Rattle.cc_typed.specs.Types.{of_process, of_struct};
 
-use crate::leaves::{known, of_enumeration, of_process, of_struct, wrong};
+use crate::leaves::{of_enumeration, of_process, of_struct};
 use crate::names::entry;
 use crate::visible::Visible;
-use cc_faults::{Answer, Identifier, TypeKind, TypeName};
-use cc_rows::{Least, visible_type};
+use cc_faults::{Answer, Identifier, Least, TypeKind, TypeName, known_part, visible_type, wrong};
 use cc_typed::DataType;
 
 impl Visible {
@@ -22,7 +21,7 @@ impl Visible {
     {
         let entry = entry(self.structures_named.as_slice(), x);
         let declared = visible_type(least, x, entry);
-        of_struct(known(least, declared))
+        of_struct(known_part(least, declared))
     }
 
     #[tactic(auto, using(crate::proofs::Laws::rules))]
@@ -32,7 +31,7 @@ impl Visible {
     {
         let entry = entry(self.enumerations_named.as_slice(), x);
         let declared = visible_type(least, x, entry);
-        of_enumeration(known(least, declared))
+        of_enumeration(known_part(least, declared))
     }
 
     #[tactic(auto, using(crate::proofs::Laws::rules))]

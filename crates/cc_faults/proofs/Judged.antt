@@ -223,3 +223,6 @@ module _ {S A B : Type 0} (f : S → A → Judged B) (step : S → A → S) (s n
       ∙ ap (λ z. noted (noted start (faults (each_after f step s (take k xs)))) (faults (f now z))) is
       ∙ ap (λ t. noted (noted start (faults (each_after f step s (take k xs)))) (faults (f t (get_or xs k x)))) (sym a)
       ∙ sym (ap (λ ys. noted start (faults (each_after f step s ys))) (take_more xs k x lt) ∙ noted-each_after start f step s (take k xs) (get_or xs k x))
+
+-- a rule that gives a value or a fault
+pub ruleset rows = (noted-end, noted-more, answer-Good, answer-own, answer-other, faults-Good, faults-Bad)

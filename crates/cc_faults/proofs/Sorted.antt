@@ -85,16 +85,16 @@ of-number kind.BadFormat = refl
 same-kind : (j k : TypeKind) → number_of j ≡ number_of k → j ≡ k
 same-kind j k e = sym (of-number j) ∙ ap kind_of e ∙ of-number k
 
-one-way : (f g : FaultAt) → before f g ≡ true → before g f ≡ false
+pub one-way : (f g : FaultAt) → before f g ≡ true → before g f ≡ false
 one-way f g e = lex-one f.place.line f.place.column (number_of f.kind) g.place.line g.place.column (number_of g.kind) e
 
-through : (f g h : FaultAt) → before f g ≡ true → before g h ≡ true → before f h ≡ true
+pub through : (f g h : FaultAt) → before f g ≡ true → before g h ≡ true → before f h ≡ true
 through f g h e i = lex-three f.place.line f.place.column (number_of f.kind) g.place.line g.place.column (number_of g.kind) h.place.line h.place.column (number_of h.kind) e i
 
 abbrev made : ℕ → ℕ → TypeKind → FaultAt
 made l c k = record { place = record { line = l; column = c }; kind = k }
 
-tie : (f g : FaultAt) → before f g ≡ false → before g f ≡ false → f ≡ g
+pub tie : (f g : FaultAt) → before f g ≡ false → before g f ≡ false → f ≡ g
 tie f g e i =
     let same = lex-tie f.place.line f.place.column (number_of f.kind) g.place.line g.place.column (number_of g.kind) e i in
     ap (λ (n : ℕ). made n f.place.column f.kind) same.0

@@ -17,6 +17,7 @@ pub fn first_of_the_list(tree: &Plain)
 }
 
 /// The list of a text's faults is in order, by place and then by number, with each fault that was found once and no other.
+#[tactic(auto, using(crate::proofs::Order::swaps))]
 pub fn list_in_order(tree: &Plain)
     ensures order { IsInOrder (faults (program tree.now)) }
 {

@@ -9,14 +9,21 @@
 #![tactic(auto)]
 
 mod answer;
+mod answers;
 mod fault;
 mod laws;
+mod names;
 mod plain;
 mod scope;
 
 pub use answer::Answer;
+pub use answers::{Least, good, known, known_part, pair, some, wrong};
 pub use fault::{FaultAt, TypeKind, note};
 pub use laws::{first_of_the_list, list_in_order, program_or_fault};
+pub use names::{
+    as_many, as_many_names, fresh, function_called, visible, visible_type, with_body,
+    with_specification,
+};
 pub use plain::{
     AcceptHead, AcceptPart, Alternative, Choice, Clause, ClauseWord, Compared, Constant,
     ConstantValue, Field, Format, Identifier, Item, Length, Local, LocalForm, Operation, Parameter,

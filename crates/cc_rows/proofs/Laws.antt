@@ -1,7 +1,8 @@
 -- What is answered and what is noted, where a rule applies.
 use Rattle.std.proofs.Common.{◌≡◌, Bool, true, false, List, [], ◌∷◌, refl, ap}
 use Rattle.cc_faults.proofs.Judged.{noted-end, noted-more, answer-Good, answer-own, answer-other, faults-Good, faults-Bad, answer-map, faults-map, answer-checked, noted-checked, answer-both, noted-both}
-use Rattle.cc_faults.specs.Judged.{answer_map, answer_pair, second}
+use Rattle.cc_faults.specs.Judged.{Judged, Good, Bad, answer_map, answer_pair, checked, map, second}
+use Rattle.cc_faults.specs.declared.fault.FaultAt.{FaultAt}
 use Rattle.cc_faults.specs.declared.answer.Answer.{Answer}
 use Rattle.cc_faults.specs.declared.answer.Answer.TheVariants as an
 use Rattle.cc_faults.specs.Made.{behind}
@@ -30,3 +31,23 @@ pub ruleset rows = (noted-end, noted-more, answer-Good, answer-own, answer-other
 
 -- rules that are put together
 pub ruleset joined = (rows, answer-map, faults-map, answer-checked, noted-checked, answer-both, noted-both, second-good)
+
+module _ {A B : Type 0} where
+  pub checked-Good : (v : A) (r : A → Judged B) → checked (Good v) r ≡ r v
+  unfolding checked
+  checked-Good v r = refl
+
+  pub checked-Bad : (own : Bool) (f : FaultAt) (fs : List FaultAt) (r : A → Judged B) → checked (Bad own f fs) r ≡ Bad own f fs
+  unfolding checked
+  checked-Bad own f fs r = refl
+
+  pub map-Good : (g : A → B) (v : A) → map g (Good v) ≡ Good (g v)
+  unfolding map
+  map-Good g v = refl
+
+  pub map-Bad : (g : A → B) (own : Bool) (f : FaultAt) (fs : List FaultAt) → map g (Bad own f fs) ≡ Bad own f fs
+  unfolding map
+  map-Bad g own f fs = refl
+
+-- outcomes
+pub ruleset outcomes = (checked-Good, checked-Bad, map-Good, map-Bad)

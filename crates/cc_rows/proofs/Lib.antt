@@ -1,1 +1,5 @@
+pub mod Beginnings
+pub mod Behind
+pub mod Depth
 pub mod Laws
+pub mod Words

@@ -1,0 +1,5 @@
+pub mod Accepts
+pub mod Called
+pub mod Fields
+pub mod Taken
+pub mod Within

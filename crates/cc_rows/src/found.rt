@@ -2,10 +2,10 @@ ghost use Rattle.std.specs.Prelude.{◌≡◌, IfOk};
 ghost use Rattle.cc_faults.specs.Made as made;
 ghost use Rattle.cc_faults.specs.declared.scope.Found.TheVariants as found_as;
 ghost use Rattle.cc_typed.specs.declared.tree.Expression.TheVariants as expression;
-ghost use Rattle.cc_typed.specs.Types.{is_void};
+ghost use Rattle.cc_typed.specs.Types.{is_array, is_assignable, is_process, is_same, is_struct, is_void};
 
 use cc_faults::Found;
-use cc_typed::{ChainStep, DataType, Expression, Location, PartStep};
+use cc_typed::{ChainStep, DataType, ElementType, Expression, Location, PartStep};
 use sqlite_items::{Boxed, Items};
 use std::alloc::{AllocError, Global};
 
@@ -42,7 +42,10 @@ pub(crate) fn behind(
 }
 
 /// Its first value and the steps behind that.
-fn parts_of(alloc: Global, found: Found) -> Result<(Expression, Items<ChainStep>), AllocError>
+pub(crate) fn parts_of(
+    alloc: Global,
+    found: Found,
+) -> Result<(Expression, Items<ChainStep>), AllocError>
     ensures { IfOk result (λ r. r ≡ (made.first_of found, made.steps_of found)) }
 {
     match found {
@@ -172,4 +175,36 @@ pub(crate) fn is_void(t: DataType) -> bool
     ensures { result ≡ is_void t }
 {
     matches!(t, DataType::Void)
+}
+
+pub(crate) fn is_array(t: DataType) -> bool
+    ensures { result ≡ is_array t }
+{
+    matches!(t, DataType::Array { .. })
+}
+
+pub(crate) fn is_struct(t: DataType) -> bool
+    ensures { result ≡ is_struct t }
+{
+    matches!(t, DataType::Single(ElementType::Struct { .. }))
+}
+
+pub(crate) fn is_process(t: DataType) -> bool
+    ensures { result ≡ is_process t }
+{
+    matches!(t, DataType::Single(ElementType::Process { .. }))
+}
+
+pub(crate) fn is_same(t: DataType, u: DataType) -> bool
+    ensures { result ≡ is_same t u }
+{
+    t == u
+}
+
+/// Whether a value of the first type may be assigned to the second.
+pub(crate) fn is_assignable(from: DataType, to: DataType) -> bool
+    ensures { result ≡ is_assignable from to }
+{
+    from.is_arithmetic() && to.is_arithmetic()
+        || (is_process(to) || is_struct(to)) && is_same(from, to)
 }

@@ -4,20 +4,16 @@
 //! good is handed on, and nothing is noted of it; so a caller need not ask whether a part was good.
 #![tactic(auto)]
 
-mod answers;
-mod found;
-mod made;
-mod names;
-mod places;
-
-pub use answers::{Least, pair};
-pub use found::{element_of, part_of, type_in, value_of, variable, with_step, within_parentheses};
-pub use made::{
-    argument_for, both_of, complemented, either_of, kept, negated, plussed, printed, put, put_out,
-    stepped_after, stepped_before, stored, updated,
-};
-pub use names::{
-    as_many, as_many_names, fresh, function_called, has_field, value_named, visible, visible_type,
-    with_body, with_specification,
-};
-pub use places::{has_value, impure, in_body, leaving, not_deep, outside_accept, replying};
+pub mod accepts;
+pub mod around;
+pub mod calls;
+pub mod fields;
+pub mod found;
+pub mod given;
+pub mod made;
+pub mod phrases;
+pub mod places;
+pub mod rows;
+pub mod statements;
+pub mod sums;
+pub mod values;

@@ -5,9 +5,9 @@ ghost use Rattle.cc_faults.specs.Expressions as phrase;
 ghost use Rattle.cc_faults.specs.Judged.{answer_map, answer_pair, answer_put, second};
 ghost use Rattle.cc_faults.specs.Made as made;
 
-use crate::answers::pair;
+use crate::found::{type_in, value_of};
 use cc_base::{NumberType, Operator, arithmetic};
-use cc_faults::{Answer, Found, StepWord};
+use cc_faults::{Answer, Found, StepWord, pair};
 use cc_typed::{Argument, Change, DataType, Expression, Location};
 use sqlite_items::{Boxed, Items};
 use std::alloc::{AllocError, Global};
@@ -100,6 +100,61 @@ pub fn either_of(
             let first = Boxed::new(alloc, first)?;
             Ok(Answer::Good(Found::Value(Expression::Either { first, rest })))
         }
+        Answer::Typeless => Ok(Answer::Typeless),
+        Answer::Faulty => Ok(Answer::Faulty),
+    }
+}
+
+/// The type of a choice between arms that fit each other.
+fn choice_of(t: DataType, u: DataType) -> DataType
+    ensures { result ≡ made.choice_of t u }
+{
+    if t.is_arithmetic() && u.is_arithmetic() {
+        return DataType::number(arithmetic::wider(t.number_type(), u.number_type()));
+    }
+    t
+}
+
+/// What is found as a value of its own.
+fn boxed_value(alloc: Global, found: Boxed<Found>) -> Result<Boxed<Expression>, AllocError>
+    ensures { IfOk result (λ e. e ≡ made.value_of found) }
+{
+    let value = value_of(alloc, found.into_inner())?;
+    Ok(Boxed::new(alloc, value)?)
+}
+
+fn choice(
+    alloc: Global,
+    condition: Expression,
+    yes: Boxed<Found>,
+    no: Boxed<Found>,
+) -> Result<Found, AllocError>
+    ensures { IfOk result (λ r. r ≡ phrase.chosen (condition, (yes, no))) }
+{
+    let data_type = choice_of(type_in(yes.get()), type_in(no.get()));
+    let condition = Boxed::new(alloc, condition)?;
+    let yes = boxed_value(alloc, yes)?;
+    let no = boxed_value(alloc, no)?;
+    Ok(Found::Value(Expression::Choose {
+        condition,
+        yes,
+        no,
+        data_type,
+    }))
+}
+
+/// `c ? x : y`
+pub fn chosen(
+    alloc: Global,
+    condition: Answer<Expression>,
+    arms: Answer<(Boxed<Found>, Boxed<Found>)>,
+) -> Result<Answer<Found>, AllocError>
+    ensures chosen { IfOk result (λ r. r ≡ answer_map phrase.chosen (answer_pair condition arms)) }
+{
+    match pair(condition, arms) {
+        Answer::Good((condition, (yes, no))) => Ok(Answer::Good(choice(
+            alloc, condition, yes, no,
+        )?)),
         Answer::Typeless => Ok(Answer::Typeless),
         Answer::Faulty => Ok(Answer::Faulty),
     }

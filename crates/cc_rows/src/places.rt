@@ -1,15 +1,13 @@
 //! The rows that are asked of where a phrase stands.
 
-ghost use Rattle.std.specs.Prelude.{◌≡◌};
+ghost use Rattle.std.specs.Prelude.{◌≡◌, if◌then◌else◌};
 ghost use Rattle.cc_faults.specs.Faults.{noted};
 ghost use Rattle.cc_faults.specs.Judged.{answer, faults};
 ghost use Rattle.cc_faults.specs.Rows as row;
+ghost use Rattle.cc_faults.specs.declared.answer.Answer.TheVariants as an;
 
-use crate::answers::{Least, wrong};
-use crate::found::is_void;
 use cc_base::Place;
-use cc_base::limits::MOST_PURE_DEPTH;
-use cc_faults::{Answer, Around, FaultAt, Leaves, Reply, Role, TypeKind, note};
+use cc_faults::{Answer, Around, FaultAt, Least, Leaves, Reply, Role, TypeKind, note, wrong};
 use cc_typed::DataType;
 
 /// AcceptPlace: the kind of the process body in which `accept` or `select` stands.
@@ -80,19 +78,6 @@ pub fn outside_accept(least: &mut Least, reply: Reply, place: Place) -> Answer<(
     }
 }
 
-/// ValueHere: a type that is not `void`.
-#[tactic(auto, using(crate::proofs::Laws::rows))]
-pub fn has_value(least: &mut Least, place: Place, t: DataType) -> Answer<DataType>
-    ensures value { result ≡ answer (row.has_value place t) }
-    ensures noted { least.new ≡ noted least.old (faults (row.has_value place t)) }
-{
-    if is_void(t) {
-        wrong(least, place, TypeKind::ValueHere);
-        return Answer::Faulty;
-    }
-    Answer::Good(t)
-}
-
 /// NotPure: a part of a kind that no pure expression is made of.
 #[tactic(auto, using(crate::proofs::Laws::rows))]
 pub fn impure(least: &mut Least, around: Around, place: Place) -> Answer<()>
@@ -106,15 +91,14 @@ pub fn impure(least: &mut Least, around: Around, place: Place) -> Answer<()>
     Answer::Good(())
 }
 
-/// PureTooDeep: an expression of `suchthat` or `by` of this depth.
+/// NotPure of a field or an element, which is pure where it is one of a place.
 #[tactic(auto, using(crate::proofs::Laws::rows))]
-pub fn not_deep(least: &mut Least, place: Place, depth: u32) -> Answer<()>
-    ensures value { result ≡ answer (row.not_deep place depth) }
-    ensures noted { least.new ≡ noted least.old (faults (row.not_deep place depth)) }
+pub fn impure_part(least: &mut Least, is_place: bool, around: Around, place: Place) -> Answer<()>
+    ensures value { result ≡ (if is_place then an.Good tt else answer (row.impure around place)) }
+    ensures noted { least.new ≡ (if is_place then least.old else noted least.old (faults (row.impure around place))) }
 {
-    if depth > MOST_PURE_DEPTH {
-        wrong(least, place, TypeKind::PureTooDeep);
-        return Answer::Faulty;
+    if is_place {
+        return Answer::Good(());
     }
-    Answer::Good(())
+    impure(least, around, place)
 }

@@ -7,10 +7,12 @@ use crate::tree::{Compared, Expression, Operation, PartStep};
 use sqlite_items::Items;
 use std::alloc::AllocError;
 
-/// The variables that are an accept's own: so many from the first on.
+/// The variables that are an accept's own: its parameters, `count` of them, numbered from `first` on.
 #[derive(Clone, Copy)]
-pub(crate) struct Own {
+pub struct Own {
+    /// The number of the first.
     pub first: u32,
+    /// How many there are.
     pub count: usize,
 }
 
@@ -149,7 +151,7 @@ fn note_part(own: Own, seen: &mut Items<u32>, step: &PartStep) -> Result<(), All
 {
     match step {
         PartStep::Field { .. } => Ok(()),
-        PartStep::Element { index, .. } => note_all(own, seen, index),
+        PartStep::Element { index, .. } => note_variables(own, seen, index),
     }
 }
 
@@ -164,35 +166,36 @@ fn note_parts(own: Own, seen: &mut Items<u32>, steps: &[PartStep]) -> Result<(),
     Ok(())
 }
 
-/// Notes the variables of a pure expression.
+/// Notes the variables that a pure expression names, each once and in the order of their first naming, apart from an
+/// accept's own. Fails where memory is out.
 #[cycle(noted_expressions)]
 #[tactic(auto, using(crate::proofs::Noted::noted_expressions))]
-fn note_all(own: Own, seen: &mut Items<u32>, e: &Expression) -> Result<(), AllocError>
-    ensures { OnOk result (seen.new ≡ all_noted own seen.old e.now) }
+pub fn note_variables(own: Own, seen: &mut Items<u32>, e: &Expression) -> Result<(), AllocError>
+    ensures noted { OnOk result (seen.new ≡ all_noted own seen.old e.now) }
 {
     match e {
         Expression::Read { from } => {
             note(own, seen, from.variable)?;
             note_parts(own, seen, from.steps.as_slice())
         }
-        Expression::Negate { operand, .. } => note_all(own, seen, operand.get()),
-        Expression::Not { operand } => note_all(own, seen, operand.get()),
-        Expression::Plus { operand, .. } => note_all(own, seen, operand.get()),
-        Expression::Parenthesized { operand, .. } => note_all(own, seen, operand.get()),
+        Expression::Negate { operand, .. } => note_variables(own, seen, operand.get()),
+        Expression::Not { operand } => note_variables(own, seen, operand.get()),
+        Expression::Plus { operand, .. } => note_variables(own, seen, operand.get()),
+        Expression::Parenthesized { operand, .. } => note_variables(own, seen, operand.get()),
         Expression::Arithmetic { first, rest, .. } => {
-            note_all(own, seen, first.get())?;
+            note_variables(own, seen, first.get())?;
             note_operations(own, seen, rest.as_slice())
         }
         Expression::Compare { first, rest } => {
-            note_all(own, seen, first.get())?;
+            note_variables(own, seen, first.get())?;
             note_comparisons(own, seen, rest.as_slice())
         }
         Expression::Both { first, rest } => {
-            note_all(own, seen, first.get())?;
+            note_variables(own, seen, first.get())?;
             note_row(own, seen, rest.as_slice())
         }
         Expression::Either { first, rest } => {
-            note_all(own, seen, first.get())?;
+            note_variables(own, seen, first.get())?;
             note_row(own, seen, rest.as_slice())
         }
         Expression::Choose {
@@ -201,9 +204,9 @@ fn note_all(own: Own, seen: &mut Items<u32>, e: &Expression) -> Result<(), Alloc
             no,
             ..
         } => {
-            note_all(own, seen, condition.get())?;
-            note_all(own, seen, yes.get())?;
-            note_all(own, seen, no.get())
+            note_variables(own, seen, condition.get())?;
+            note_variables(own, seen, yes.get())?;
+            note_variables(own, seen, no.get())
         }
         Expression::Constant { .. }
         | Expression::GetChar
@@ -226,7 +229,7 @@ fn note_operations(own: Own, seen: &mut Items<u32>, rest: &[Operation]) -> Resul
     ensures { OnOk result (seen.new ≡ operations_noted_in own seen.old rest.now) }
 {
     for operation in rest {
-        note_all(own, seen, &operation.operand)?;
+        note_variables(own, seen, &operation.operand)?;
     }
     Ok(())
 }
@@ -237,7 +240,7 @@ fn note_comparisons(own: Own, seen: &mut Items<u32>, rest: &[Compared]) -> Resul
     ensures { OnOk result (seen.new ≡ comparisons_noted_in own seen.old rest.now) }
 {
     for compared in rest {
-        note_all(own, seen, &compared.operand)?;
+        note_variables(own, seen, &compared.operand)?;
     }
     Ok(())
 }
@@ -248,7 +251,7 @@ fn note_row(own: Own, seen: &mut Items<u32>, rest: &[Expression]) -> Result<(), 
     ensures { OnOk result (seen.new ≡ row_noted_in own seen.old rest.now) }
 {
     for e in rest {
-        note_all(own, seen, e)?;
+        note_variables(own, seen, e)?;
     }
     Ok(())
 }
@@ -263,7 +266,7 @@ pub(crate) fn note_clause(
 {
     match clause {
         None => Ok(()),
-        Some(e) => note_all(own, seen, e),
+        Some(e) => note_variables(own, seen, e),
     }
 }
 

@@ -57,8 +57,8 @@ fn read_end(reading: Reading, count: usize) -> Option<usize>
 
 /// How many numbers a format takes; none where a `%` begins no conversion.
 #[tactic(auto, using(crate::proofs::Conversions::readings, crate::proofs::Conversions::ends))]
-pub(crate) fn numbers(format: &[u8]) -> Option<usize>
-    ensures { result ≡ (if is_format format.now then Some (conversions format.now) else None) }
+pub fn numbers_taken(format: &[u8]) -> Option<usize>
+    ensures count { result ≡ (if is_format format.now then Some (conversions format.now) else None) }
 {
     let mut reading = Reading::Plain;
     let mut count = 0;

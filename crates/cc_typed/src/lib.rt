@@ -18,6 +18,8 @@ mod typed_statements;
 mod types;
 
 pub use cc_base::{Comparison, NumberType, Operator};
+pub use clauses::{Own, note_variables};
+pub use formats::numbers_taken;
 pub use laws::{
     cells_and_values, cells_and_values_in_order, parts_of_cells, parts_of_types, paths_go_on,
     stored_values, tables_keep_layouts, types_are_the_same,

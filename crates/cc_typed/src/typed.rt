@@ -8,7 +8,7 @@ ghost use Rattle.cc_typed.specs.Typed.{function_parameters, is_called, is_consta
 ghost use Rattle.cc_typed.specs.TypedLists.{arguments_typed, comparisons_typed, is_part_first, is_typed_location, operands_typed, operations_typed, parts_typed, steps_typed};
 ghost use Rattle.cc_typed.specs.Types.{type_of};
 
-use crate::formats::numbers;
+use crate::formats::numbers_taken;
 use crate::known::process_kind;
 use crate::parts::ProgramParts;
 use crate::tree::{Argument, ChainStep, Compared, Expression, Location, Operation, PartStep};
@@ -216,7 +216,7 @@ impl<'p> Context<'p> {
         ensures { result ≡ takes_numbers (slice_get (parts_of self.now.parts.now).formats format) count }
     {
         match self.parts.formats.get(format as usize) {
-            Some(found) => match numbers(found.as_slice()) {
+            Some(found) => match numbers_taken(found.as_slice()) {
                 Some(n) => n == count,
                 None => false,
             },

@@ -1,7 +1,7 @@
 use Rattle.std.proofs.Common.{◌≡◌, ◌≤◌, drop}
 use Rattle.cc_typed.specs.Formats.{numbers_from}
 use Rattle.cc_typed.specs.declared.formats.Reading.TheVariants as reading
-use Rattle.cc_typed.proofs.formats.numbers.Given as goal
+use Rattle.cc_typed.proofs.formats.numbers_taken.Given as goal
 
 abbrev pub invariant-loop-byte : goal.invariant-loop-byte
 invariant-loop-byte l =

@@ -1,16 +1,19 @@
-//! The rows that are asked of names, lengths, values of constants, and of how many there are.
+//! The rows that are asked of names, and of how many there are.
 
 ghost use Rattle.std.specs.Prelude.{◌≡◌};
 ghost use Rattle.cc_faults.specs.Faults.{noted};
 ghost use Rattle.cc_faults.specs.Judged.{answer, answer_then, faults, faults_then};
 ghost use Rattle.cc_faults.specs.Rows as row;
 
+use crate::answer::Answer;
 use crate::answers::{Least, wrong};
+use crate::fault::TypeKind;
+use crate::plain::Identifier;
+use crate::scope::{Meaning, Named};
 use cc_base::Place;
-use cc_faults::{Answer, Identifier, Meaning, Named, TypeKind, note};
 
 /// Duplicate: the name is taken in this scope and space.
-#[tactic(auto, using(crate::proofs::Laws::rows))]
+#[tactic(auto, using(crate::proofs::Judged::rows))]
 pub fn fresh(least: &mut Least, taken: bool, x: Identifier) -> Answer<()>
     ensures value { result ≡ answer (row.fresh taken x) }
     ensures noted { least.new ≡ noted least.old (faults (row.fresh taken x)) }
@@ -23,7 +26,7 @@ pub fn fresh(least: &mut Least, taken: bool, x: Identifier) -> Answer<()>
 }
 
 /// UnknownName: what a name means that is visible.
-#[tactic(auto, using(crate::proofs::Laws::rows))]
+#[tactic(auto, using(crate::proofs::Judged::rows))]
 pub fn visible(least: &mut Least, x: Identifier, named: Option<Named>) -> Answer<Meaning>
     ensures value { result ≡ answer (row.visible x named) }
     ensures noted { least.new ≡ noted least.old (faults (row.visible x named)) }
@@ -36,7 +39,7 @@ pub fn visible(least: &mut Least, x: Identifier, named: Option<Named>) -> Answer
 }
 
 /// UnknownType: a structure, an enumeration or a process type that is visible.
-#[tactic(auto, using(crate::proofs::Laws::rows))]
+#[tactic(auto, using(crate::proofs::Judged::rows))]
 pub fn visible_type<T: Drop>(least: &mut Least, x: Identifier, entry: Option<T>) -> Answer<T>
     ensures value { result ≡ answer (row.visible_type x entry) }
     ensures noted { least.new ≡ noted least.old (faults (row.visible_type x entry)) }
@@ -49,7 +52,7 @@ pub fn visible_type<T: Drop>(least: &mut Least, x: Identifier, entry: Option<T>)
 }
 
 /// NotAFunction: the number of the function that is called.
-#[tactic(auto, using(crate::proofs::Laws::rows))]
+#[tactic(auto, using(crate::proofs::Judged::rows))]
 pub fn function_called(least: &mut Least, place: Place, meaning: Answer<Meaning>) -> Answer<u32>
     ensures value { result ≡ answer_then meaning (row.function_called place) }
     ensures noted { least.new ≡ noted least.old (faults_then meaning (row.function_called place)) }
@@ -65,29 +68,8 @@ pub fn function_called(least: &mut Least, place: Place, meaning: Answer<Meaning>
     }
 }
 
-/// EnumRange, at the constant `x`: the value of a constant that is named for it.
-#[tactic(auto, using(crate::proofs::Laws::rows))]
-pub fn value_named(least: &mut Least, x: Identifier, meaning: Answer<Meaning>) -> Answer<i64>
-    ensures value { result ≡ answer_then meaning (row.value_named x) }
-    ensures noted { least.new ≡ noted least.old (faults_then meaning (row.value_named x)) }
-{
-    match meaning {
-        Answer::Good(Meaning::Constant(value)) => Answer::Good(value),
-        Answer::Good(Meaning::Valueless(fault)) => {
-            note(least, fault);
-            Answer::Typeless
-        }
-        Answer::Good(_) => {
-            wrong(least, x.place, TypeKind::EnumRange);
-            Answer::Faulty
-        }
-        Answer::Typeless => Answer::Typeless,
-        Answer::Faulty => Answer::Faulty,
-    }
-}
-
 /// Arity: as many as are wanted.
-#[tactic(auto, using(crate::proofs::Laws::rows))]
+#[tactic(auto, using(crate::proofs::Judged::rows))]
 pub fn as_many<T: Drop>(
     least: &mut Least,
     place: Place,
@@ -106,7 +88,7 @@ pub fn as_many<T: Drop>(
 }
 
 /// BodyNames: as many names as parameters.
-#[tactic(auto, using(crate::proofs::Laws::rows))]
+#[tactic(auto, using(crate::proofs::Judged::rows))]
 pub fn as_many_names(
     least: &mut Least,
     x: Identifier,
@@ -124,7 +106,7 @@ pub fn as_many_names(
 }
 
 /// NoBody: a specification with a body.
-#[tactic(auto, using(crate::proofs::Laws::rows))]
+#[tactic(auto, using(crate::proofs::Judged::rows))]
 pub fn with_body(least: &mut Least, there: bool, x: Identifier) -> Answer<()>
     ensures value { result ≡ answer (row.with_body there x) }
     ensures noted { least.new ≡ noted least.old (faults (row.with_body there x)) }
@@ -137,7 +119,7 @@ pub fn with_body(least: &mut Least, there: bool, x: Identifier) -> Answer<()>
 }
 
 /// NoSpec: the kind of a body with a specification.
-#[tactic(auto, using(crate::proofs::Laws::rows))]
+#[tactic(auto, using(crate::proofs::Judged::rows))]
 pub fn with_specification(least: &mut Least, x: Identifier, kind: Option<u32>) -> Answer<u32>
     ensures value { result ≡ answer (row.with_specification x kind) }
     ensures noted { least.new ≡ noted least.old (faults (row.with_specification x kind)) }
@@ -147,17 +129,4 @@ pub fn with_specification(least: &mut Least, x: Identifier, kind: Option<u32>) -
         return Answer::Faulty;
     };
     Answer::Good(kind)
-}
-
-/// UnknownField: the number of a field that the structure has.
-#[tactic(auto, using(crate::proofs::Laws::rows))]
-pub fn has_field(least: &mut Least, x: Identifier, field: Option<u32>) -> Answer<u32>
-    ensures value { result ≡ answer (row.has_field x field) }
-    ensures noted { least.new ≡ noted least.old (faults (row.has_field x field)) }
-{
-    let Some(field) = field else {
-        wrong(least, x.place, TypeKind::UnknownField);
-        return Answer::Faulty;
-    };
-    Answer::Good(field)
 }
