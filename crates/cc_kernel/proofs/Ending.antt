@@ -1,5 +1,5 @@
 -- The collective end: what is kept follows the machine, and nothing comes after it.
-use Rattle.std.proofs.Common.{◌≡◌, inl, inr, ℕ, zero, suc, ◌+◌, ◌<◌, All, None, ℤ, Bool, true, false, ◌&&◌, ◌||◌, List, [], ◌∷◌, ◌++◌, length, map, refl, sym, ap, ◌∙◌, subst, arith, append_assoc, set}
+use Rattle.std.proofs.Common.{◌≡◌, inl, inr, ℕ, suc, ◌+◌, ◌<◌, All, ℤ, Bool, true, false, ◌&&◌, ◌||◌, List, [], ◌∷◌, ◌++◌, length, map, refl, sym, ap, ◌∙◌, subst, arith, append_assoc, set}
 use Rattle.std.specs.Prelude.{if◌then◌else◌}
 use Rattle.std.specs.List.{enumerate_from, list_all, list_any}
 use Rattle.std.proofs.lemmas.Bool.{cases_lt}
@@ -7,16 +7,15 @@ use Rattle.std.proofs.lemmas.List.{get_or_past}
 use Rattle.std.proofs.lemmas.List.Elements.{All-append, All-push}
 use Rattle.cc_base.specs.Meaning.{Meaning}
 use Rattle.cc_base.specs.declared.request.Grant.{Grant}
-use Rattle.cc_kernel.proofs.Plain.{IsLate, false-from, not-unsettled, over-quiet}
-use Rattle.cc_kernel.proofs.Simulates.{untimed-kept}
-use Rattle.cc_kernel.proofs.Timed.{deadlines-stay, no-delays-none, of-standing, stands-for}
-use Rattle.cc_kernel.specs.Timed.{deadline_of}
+use Rattle.cc_kernel.proofs.Plain.{AreLate, CallsAreLate, false-from, not-unsettled, over-quiet}
+use Rattle.cc_kernel.proofs.Timed.{of-standing, over-none, stands-for}
+use Rattle.cc_kernel.specs.Timed.{AreDeadlines, call_due, deadline_of, is_moment}
 use Rattle.cc_timer.specs.declared.who.Who.TheVariants as who
-use Rattle.cc_kernel.proofs.Seated.{Seated-length, out-running, plain-at, same-standing}
+use Rattle.cc_kernel.proofs.Seated.{Seated-length, out-running, same-standing}
 use Rattle.cc_kernel.specs.Choice.{after_end, due_in, seat_may_end, seat_waits, waits_so}
 use Rattle.cc_kernel.specs.Counted.{ended_seat, may_terminate}
 use Rattle.cc_kernel.specs.Settles.{GoesOn, IsCalm, Settles}
-use Rattle.cc_kernel.specs.Store.{Contents, IsPlain, IsState, SeatFits, Seated, ended_contents}
+use Rattle.cc_kernel.specs.Store.{Contents, IsState, SeatFits, Seated, ended_contents}
 use Rattle.cc_kernel.specs.Seats.{is_out, seat_at, served_call, vacant, with_left}
 use Rattle.cc_kernel.specs.declared.seat.Seat.{Seat}
 use Rattle.cc_kernel.proofs.Places.{enumerated-length}
@@ -94,7 +93,7 @@ module _ {P : Type 0} (m : Meaning) (located : P → ℕ → List ℤ → List G
       (some-same (seat_waits m x.seats x.pending) (waits_at_terminate m s) (λ p. waits-same s x p k) 0 x.seats s.processes l)
 
   ended-fits : (q : Process) (seat : Seat P) (b : Bool) → SeatFits located q seat → SeatFits located (if b then record q { standing = Ended; serving = [] } else q) (if b then with_left Ended else seat)
-  ended-fits q seat true h = record { standing = refl; whereabouts = refl; plain = tt }
+  ended-fits q seat true h = record { standing = refl; whereabouts = refl; numbered = tt }
   ended-fits q seat false h = h
 
   ended-seated :
@@ -169,60 +168,31 @@ module _ {P : Type 0} (m : Meaning) (located : P → ℕ → List ℤ → List G
   length-map' f [] = refl
   length-map' f (x ∷ xs) = ap suc (length-map' f xs)
 
-  -- who waits at `terminate` has no deadline
-  waiting-none : (s : State) (x : Contents P) (p : ℕ) → IsState located s x → seat_waits m x.seats x.pending p ≡ true → deadline_of (seat_at x.seats p).standing ≡ None
-  waiting-none s x p k h =
-      by (seat_at x.seats p).standing
-      (subst IsPlain (sym (same-standing located s.processes x.seats p k.seated)) (plain-at located s.processes x.seats p k.seated))
-      h
-    where
-      by : (y : ProcessStanding) → IsPlain y → waits_so m p y x.pending ≡ true → deadline_of y ≡ None
-      by Running h e = refl
-      by (AtSelect alts asked) h e = no-delays-none asked alts h
-      by (AtDelay deadline) h e = cc
-      by (AtCall call) h e = refl
-      by Ended h e = refl
-      by (Faulted kind) h e = refl
-
-  ended-deadline :
-      (v : ℕ → Bool) (n : ℕ) (seats : List (Seat P))
-      → ((i : ℕ) → v (n + i) ≡ true → deadline_of (seat_at seats i).standing ≡ None)
-      → (i : ℕ)
-      → deadline_of (seat_at (map (λ e. if v e.0 then with_left Ended else e.1) (enumerate_from n seats)) i).standing ≡ deadline_of (seat_at seats i).standing
-  ended-deadline v n [] h i = refl
-  ended-deadline v n (seat ∷ seats) h zero = either (v n) (λ e. h 0 (let here : n + 0 ≡ n = omega arith in ap v here ∙ e))
-    where
-      either : (b : Bool) → (b ≡ true → deadline_of seat.standing ≡ None) → deadline_of (if b then with_left Ended else seat).standing ≡ deadline_of seat.standing
-      either true none = sym (none refl)
-      either false none = refl
-  ended-deadline v n (seat ∷ seats) h (suc i) =
-      ended-deadline v (n + 1) seats (λ j e. h (suc j) (let there : n + suc j ≡ n + 1 + j = omega arith in ap v there ∙ e)) i
-
   -- where no kept deadline has come, none of a process has
-  late-at :
-      (s : State) (x : Contents P)
-      → IsState located s x
-      → All (λ d. x.moment < d.0) x.deadlines
-      → (p : ℕ)
-      → IsLate s.moment (process_at s.processes p).standing
-  late-at s x k later p = by (process_at s.processes p).standing (same-standing located s.processes x.seats p k.seated)
-    where
-      by : (y : ProcessStanding) → (seat_at x.seats p).standing ≡ y → IsLate s.moment y
-      by Running e = tt
-      by (AtSelect alts asked) e = tt
-      by (AtDelay deadline) e =
-          rw (← k.moment)
-          (of-standing (λ d. x.moment < d.0) x.deadlines deadline (who.Process (record { 0 = p })) later
-          (stands-for x.seats x.pending x.deadlines (record { 0 = p }) deadline k.timed (ap deadline_of e)))
-      by (AtCall call) e = tt
-      by Ended e = tt
-      by (Faulted kind) e = tt
+  late-at : (s : State) (x : Contents P) → IsState located s x → All (λ d. x.moment < d.0) x.deadlines → AreLate s
+  late-at s x k later p n e =
+      rw (← k.moment)
+      (of-standing (λ d. x.moment < d.0) x.deadlines n (who.Process (record { 0 = p })) later
+      (stands-for x.seats x.pending x.deadlines (who.Process (record { 0 = p })) n k.timed (ap deadline_of (same-standing located s.processes x.seats p k.seated) ∙ e)))
+
+  calls-late-at : (s : State) (x : Contents P) → IsState located s x → All (λ d. x.moment < d.0) x.deadlines → CallsAreLate s
+  calls-late-at s x k later c n e =
+      rw (← k.moment)
+      (of-standing (λ d. x.moment < d.0) x.deadlines n (who.Call (record { 0 = c })) later
+      (stands-for x.seats x.pending x.deadlines (who.Call (record { 0 = c })) n k.timed (ap (λ calls. call_due calls c) k.pending ∙ e)))
+
+  -- after the collective end no deadline stands
+  none-timed : (s : State) (seats : List (Seat P)) → Seated located s.processes seats → ((p : ℕ) → is_over (process_at s.processes p).standing ≡ true) → AreDeadlines seats [] []
+  none-timed s seats seated over n (who.Process p) =
+      sym (ap (is_moment n) (over-none (seat_at seats p.0).standing (ap is_over (same-standing located s.processes seats p.0 seated) ∙ over p.0)))
+  none-timed s seats seated over n (who.Call c) = refl
 
   -- the collective end comes
-  state-ended : (s : State) (x : Contents P) → IsState located s x → IsState located (all_ended m s) (ended_contents m x)
-  state-ended s x k =
+  state-ended : (s : State) (x : Contents P) → IsState located s x → is_due m s ≡ true → IsState located (all_ended m s) (ended_contents m x)
+  state-ended s x k due =
+      let seated = ended-seated (waits_at_terminate m s) (seat_waits m x.seats x.pending) (λ p. waits-same s x p k) 0 s.processes x.seats k.seated in
       record {
-        seated = ended-seated (waits_at_terminate m s) (seat_waits m x.seats x.pending) (λ p. waits-same s x p k) 0 s.processes x.seats k.seated;
+        seated = seated;
         few = rw (length-map' (after_end m x.seats x.pending) (enumerate_from 0 x.seats), enumerated-length vacant 0 x.seats) k.few;
         pending = refl;
         served = λ i.
@@ -234,12 +204,7 @@ module _ {P : Type 0} (m : Meaning) (located : P → ℕ → List ℤ → List G
         input = k.input;
         moment = k.moment;
         rising = omega arith;
-        untimed = tt;
-        timed =
-            deadlines-stay x.seats (map (after_end m x.seats x.pending) (enumerate_from 0 x.seats)) x.pending [] x.deadlines
-            (ended-deadline (seat_waits m x.seats x.pending) 0 x.seats
-            (λ i e. let here : 0 + i ≡ i = omega arith in waiting-none s x i k (ap (seat_waits m x.seats x.pending) (sym here) ∙ e)))
-            (untimed-kept located s x k) tt k.timed;
+        timed = none-timed (all_ended m s) (ended_contents m x).seats seated (ended-over m s due);
       }
 
   -- the machine has settled by the collective end
@@ -251,7 +216,7 @@ module _ {P : Type 0} (m : Meaning) (located : P → ℕ → List ℤ → List G
   settles-ended first before events x g h =
       let s = after m first g.more in
       let due : is_due m s ≡ true = sym (due-same s x g.state) ∙ h in
-      let ended : IsState located (next m s End) (ended_contents m x) = any-time m located (all_ended m s) (ended_contents m x) false (state-ended s x g.state) in
+      let ended : IsState located (next m s End) (ended_contents m x) = any-time m located (all_ended m s) (ended_contents m x) false (state-ended s x g.state due) in
       record {
         goes_on =
             record {
@@ -263,7 +228,7 @@ module _ {P : Type 0} (m : Meaning) (located : P → ℕ → List ℤ → List G
             };
         settled =
             rw (after-append m first g.more (End ∷ []))
-            (over-quiet m (next m s End) (λ p. plain-at located (next m s End).processes (ended_contents m x).seats p ended.seated) refl (ended-over m s due));
+            (over-quiet m (next m s End) refl (ended-over m s due));
       }
 
   -- or it has where nothing can be taken, the collective end is not due and no deadline has come
@@ -279,7 +244,7 @@ module _ {P : Type 0} (m : Meaning) (located : P → ℕ → List ℤ → List G
       record {
         goes_on = g;
         settled =
-            not-unsettled m s (λ p. plain-at located s.processes x.seats p g.state.seated) (late-at s x g.state later) g.state.untimed (calm s g.state)
+            not-unsettled m s (late-at s x g.state later) (calls-late-at s x g.state later) g.state.rising (calm s g.state)
             (sym (due-same s x g.state) ∙ h);
       }
 

@@ -30,8 +30,7 @@ use Rattle.cc_kernel.proofs.Plain.{running-not-due}
 use Rattle.cc_rules.proofs.NextStays.{running-within}
 use Rattle.cc_rules.proofs.Settled.{IsSettled-by_test}
 use Rattle.cc_kernel.proofs.Settling.{any-time, state-time}
-use Rattle.cc_kernel.proofs.Simulates.{untimed-kept}
-use Rattle.cc_kernel.proofs.Timed.{deadlines-stay, set-deadline}
+use Rattle.cc_kernel.proofs.Timed.{deadlines-stay, same-for, set-deadline}
 use Rattle.cc_kernel.specs.Timed.{AreDeadlines, DeadlineList, deadline_of, is_moment}
 use Rattle.cc_timer.specs.declared.who.Who.TheVariants as who
 use Rattle.cc_kernel.specs.Settles.{Settles}
@@ -76,11 +75,9 @@ module _ {P : Type 0} (m : Meaning) (located : P → ℕ → List ℤ → List G
         input = k.input;
         moment = k.moment;
         rising = k.rising;
-        untimed = k.untimed;
         timed =
             deadlines-stay x.seats (set x.seats i (with_out (seat_at x.seats i))) x.pending x.pending x.deadlines
-            (λ j. set-deadline x.seats i j (with_out (seat_at x.seats i)) refl)
-            (untimed-kept located s x k) (untimed-kept located s x k) k.timed;
+            (same-for x.seats (set x.seats i (with_out (seat_at x.seats i))) x.pending x.pending (λ j. set-deadline x.seats i j (with_out (seat_at x.seats i)) refl) (λ c. refl)) k.timed;
       }
 
   pub kept-out :
@@ -128,7 +125,7 @@ module _ {P : Type 0} (m : Meaning) (located : P → ℕ → List ℤ → List G
         settled = IsSettled-by_test m (first_state input) refl;
         state =
             record {
-              seated = rw here (record { standing = refl; whereabouts = (refl, ([], refl, is)); plain = tt }, tt);
+              seated = rw here (record { standing = refl; whereabouts = (refl, ([], refl, is)); numbered = tt }, tt);
               few = rw here (omega arith);
               pending = none;
               served = λ i. ap (λ (f : ℕ → List ServedCall). f i) none' ∙ sym (first-serves i);
@@ -136,7 +133,6 @@ module _ {P : Type 0} (m : Meaning) (located : P → ℕ → List ℤ → List G
               input = refl;
               moment = refl;
               rising = omega arith;
-              untimed = tt;
               timed = rw (here, none, undue) first-timed;
             };
         rest = rw (here, none) first-rests;

@@ -9,6 +9,7 @@ pub mod Gone
 pub mod Outs
 pub mod Chosen
 pub mod Timed
+pub mod Dues
 pub mod Simulates
 pub mod Plain
 pub mod Counted

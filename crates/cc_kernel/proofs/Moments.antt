@@ -1,5 +1,5 @@
 -- When a Time is legal.
-use Rattle.std.proofs.Common.{inl, inr, ◌≢◌, ◌<◌, ◌≤◌, ℤ, ◌≡◌, ℕ, zero, suc, ◌-◌, Bool, true, false, ◌&&◌, ◌||◌, not, List, [], ◌∷◌, length, refl, ap, ◌∙◌, sym, arith, Some, None, Option}
+use Rattle.std.proofs.Common.{inl, inr, ◌≢◌, ◌<◌, ◌≤◌, ℤ, ◌≡◌, ℕ, ◌-◌, Bool, true, false, ◌&&◌, not, List, [], ◌∷◌, length, refl, ap, ◌∙◌, sym, arith}
 use Rattle.std.specs.Prelude.{if◌then◌else◌, is_some, nat_le, nat_lt, slice_get}
 use Rattle.std.specs.Option.{option_map_or}
 use Rattle.std.specs.List.{list_all, list_any}
@@ -12,7 +12,7 @@ use Rattle.cc_kernel.specs.Store.{Contents, IsState}
 use Rattle.cc_kernel.specs.declared.seat.Seat.{Seat}
 use Rattle.cc_rules.specs.Standing.{deadlines}
 use Rattle.cc_base.specs.Meaning.{Meaning}
-use Rattle.cc_rules.specs.Ends.{has_deadline, has_running, is_complete, is_due, is_stuck, is_unsettled}
+use Rattle.cc_rules.specs.Ends.{has_deadline, has_running, is_complete, is_due, is_unsettled}
 use Rattle.cc_rules.specs.Events.{is_legal, is_time, next}
 use Rattle.cc_rules.specs.Runs.{after, state_after}
 use Rattle.cc_rules.specs.State.{State, first_state, is_over, is_running}

@@ -11,8 +11,8 @@ use Rattle.cc_base.specs.declared.request.Grant.TheVariants.{Go, Value}
 use Rattle.cc_kernel.proofs.Outs.{length-answered}
 use Rattle.cc_kernel.proofs.Seated.{Seated-answered, Seated-length, Seated-ready}
 use Rattle.cc_kernel.specs.Stacks.{IsInnermost}
-use Rattle.cc_kernel.proofs.Simulates.{same-or-not, serving-answered, serving-other, serving-own, untimed-kept}
-use Rattle.cc_kernel.proofs.Timed.{answered-deadline, changed-timed, deadlines-stay, running-none, set-deadline}
+use Rattle.cc_kernel.proofs.Simulates.{same-or-not, serving-answered, serving-other, serving-own}
+use Rattle.cc_kernel.proofs.Timed.{answered-deadline, changed-timed, deadlines-stay, running-none, same-for, set-deadline}
 use Rattle.cc_kernel.specs.Store.{IsLocated, IsState, Contents, went_on}
 use Rattle.cc_kernel.specs.Seats.{answered_seats, seat_at, served_call, with_ready}
 use Rattle.cc_kernel.specs.declared.served.ServedCall.{ServedCall}
@@ -121,8 +121,7 @@ module _ {P : Type 0} (m : Meaning) (located : P → ℕ → List ℤ → List G
         input = k.input;
         moment = k.moment;
         rising = k.rising;
-        untimed = k.untimed;
-        timed = changed-timed x.seats x.pending x.deadlines p (with_ready process Go) (running-none (seat_at x.seats p).standing r) refl (untimed-kept located s x k) k.timed;
+        timed = changed-timed x.seats x.pending x.deadlines p (with_ready process Go) (running-none (seat_at x.seats p).standing r) refl k.timed;
       }
 
   pub state-reply-none :
@@ -166,13 +165,13 @@ module _ {P : Type 0} (m : Meaning) (located : P → ℕ → List ℤ → List G
         input = k.input;
         moment = k.moment;
         rising = k.rising;
-        untimed = k.untimed;
         timed =
             deadlines-stay x.seats (answered_seats (set x.seats p (with_ready process Go)) (served_call call) grant) x.pending x.pending x.deadlines
+            (same-for x.seats _ x.pending x.pending
             (λ i.
             answered-deadline (set x.seats p (with_ready process Go)) (served_call call) grant i
             ∙ set-deadline x.seats p i (with_ready process Go) (sym (running-none (seat_at x.seats p).standing running)))
-            (untimed-kept located s x k) (untimed-kept located s x k) k.timed;
+            (λ c. refl)) k.timed;
       })
 
   pub state-reply :

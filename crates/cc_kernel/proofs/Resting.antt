@@ -10,7 +10,7 @@ use Rattle.cc_base.specs.declared.alternatives.Alt.{Alt}
 use Rattle.cc_base.specs.declared.alternatives.Alt.TheVariants.{Accept, After, Now, Terminate}
 use Rattle.cc_base.specs.declared.names.Pid.{Pid}
 use Rattle.cc_base.specs.declared.request.Grant.{Grant}
-use Rattle.cc_base.specs.declared.request.Grant.TheVariants.{Chose, Go, Gone, Made, Took}
+use Rattle.cc_base.specs.declared.request.Grant.TheVariants.{Chose, Go, Gone, Late, Made, Took}
 use Rattle.std.proofs.lemmas.List.{get_or-set_other, get_or-set_same}
 use Rattle.cc_kernel.proofs.Counted.{each-of-push, each-of-set}
 use Rattle.cc_kernel.proofs.Simulates.{same-or-not}
@@ -22,17 +22,20 @@ use Rattle.cc_kernel.specs.Resting.{AllRest, RestBut, RestsAt, RestsSo}
 use Rattle.cc_kernel.proofs.Stacks.{same-everywhere}
 use Rattle.cc_kernel.specs.Seats.{answered_seats, gone_seats, no_call, seat_at, served_call, vacant, with_left, with_out, with_ready, with_waiting, woken}
 use Rattle.cc_kernel.specs.Settles.{IsCalm}
-use Rattle.cc_kernel.specs.Store.{Contents, IsState, accepted_contents, called_contents, chose_contents, delayed_contents, ended_contents, expired_contents, left_contents, made_contents, sent_contents, waited, went_on}
+use Rattle.cc_kernel.specs.Store.{Contents, IsState, accepted_contents, called_contents, chose_contents, delayed_contents, ended_contents, expired_contents, left_contents, made_contents, sent_contents, waited, went_on, withdrawn_contents}
 use Rattle.cc_kernel.specs.declared.seat.Seat.{Seat}
 use Rattle.cc_kernel.specs.declared.served.ServedCall.{ServedCall}
 use Rattle.cc_rules.proofs.Bools.{both-ways}
 use Rattle.cc_rules.specs.Choice.{accepts, has_eligible, has_immediate, is_acceptable, is_eligible, is_immediate}
 use Rattle.cc_rules.specs.Effects.{caller_of, deadline_after, is_for, waits_for}
+use Rattle.cc_rules.specs.Events.{expiry_grant}
 use Rattle.cc_rules.specs.State.{State, is_over, open_alternatives, process_at}
 use Rattle.cc_rules.specs.declared.process.ProcessStanding.{ProcessStanding}
 use Rattle.cc_rules.specs.declared.process.ProcessStanding.TheVariants.{Running, AtSelect, AtDelay, AtCall, Ended, Faulted}
 use Rattle.cc_rules.specs.declared.process.TransactionCall.{TransactionCall}
-use Rattle.cc_rules.specs.declared.process.Waiting.TheVariants.{Caller, Nobody}
+use Rattle.cc_rules.specs.declared.process.Waiting.{Waiting}
+use Rattle.cc_rules.specs.declared.process.Waiting.TheVariants.{Nobody}
+use Rattle.cc_timer.specs.declared.who.Who.{Who}
 
 false-from : (b : Bool) → (b ≡ true → ⊥) → b ≡ false
 false-from true h = absurd (h refl)
@@ -163,13 +166,13 @@ module _ (m : Meaning) where
 
     -- a call is asked for
     pub rest-call :
-        (x : Contents P) (p : Pid) (process : P) (target : Pid) (trans : ℕ) (args : List ℤ) (b : Bool)
+        (x : Contents P) (p : Pid) (process : P) (target : Pid) (trans : ℕ) (args : List ℤ) (waiting : Waiting) (b : Bool)
         → AllRest m x
-        → RestBut m (if b then went_on x p.0 process Gone else called_contents x p process target trans args) (Some target)
-    rest-call x p process target trans args true all q ne = rest-ready x.seats x.pending p.0 process Gone all q
-    rest-call x p process target trans args false all q ne =
+        → RestBut m (if b then went_on x p.0 process Gone else called_contents x p process target trans args waiting) (Some target)
+    rest-call x p process target trans args waiting true all q ne = rest-ready x.seats x.pending p.0 process Gone all q
+    rest-call x p process target trans args waiting false all q ne =
         pushed-at (set x.seats p.0 (with_waiting process (AtCall (record { 0 = x.drawn })))) x.pending
-        (record { number = record { 0 = x.drawn }; target = target; trans = trans; args = args; waiting = Caller p })
+        (record { number = record { 0 = x.drawn }; target = target; trans = trans; args = args; waiting = waiting })
         q ne
         (rest-set x.seats x.pending p.0 (with_waiting process (AtCall (record { 0 = x.drawn }))) (refl, refl) all q)
 
@@ -185,7 +188,7 @@ module _ (m : Meaning) where
         (rest-ready x.seats x.pending p.0 process Go all q)
 
     -- it waits for an alternative
-    pub rest-select : (x : Contents P) (p : Pid) (process : P) (standing : ProcessStanding) → AllRest m x → RestBut m (waited x p.0 process standing) (Some p)
+    pub rest-select : (x : Contents P) (p : Pid) (process : P) (standing : ProcessStanding) → AllRest m x → RestBut m (waited x p process standing) (Some p)
     rest-select x p process standing all q ne = others x.seats p.0 q (with_waiting process standing) ne (all q)
       where
         others :
@@ -200,12 +203,18 @@ module _ (m : Meaning) where
     rest-delay x p process wait all = rest-set x.seats x.pending p.0 (with_waiting process (AtDelay (deadline_after x.moment wait))) (refl, refl) all
 
     -- its moment has come
-    pub rest-expired : (x : Contents P) (p : Pid) (deadline : ℕ) → AllRest m x → AllRest m (expired_contents x p deadline)
-    rest-expired x p deadline all = rest-set x.seats x.pending p.0 (woken (seat_at x.seats p.0) Go) (refl, refl) all
+    pub rest-expired : (x : Contents P) (p : Pid) (i : ℕ) → AllRest m x → AllRest m (expired_contents x p i)
+    rest-expired x p i all = rest-set x.seats x.pending p.0 (woken (seat_at x.seats p.0) (expiry_grant i (seat_at x.seats p.0).standing)) (refl, refl) all
+
+    -- a call is withdrawn
+    pub rest-withdrawn : (x : Contents P) (call : TransactionCall) → AllRest m x → AllRest m (withdrawn_contents x call)
+    rest-withdrawn x call all q =
+        filtered-at (answered_seats x.seats (served_call call) Late) (λ other. not (nat_eq other.number.0 call.number.0)) x.pending q
+        (rest-answered x.seats x.pending (served_call call) Late all q)
 
     -- it is over
-    pub rest-left : (x : Contents P) (p : ℕ) (standing : ProcessStanding) → is_over standing ≡ true → AllRest m x → AllRest m (left_contents x p standing)
-    rest-left x p standing over all q =
+    pub rest-left : (x : Contents P) (p : ℕ) (standing : ProcessStanding) (left : List (ℕ × Who)) → is_over standing ≡ true → AllRest m x → AllRest m (left_contents x p standing left)
+    rest-left x p standing left over all q =
         filtered-at
         (gone_seats
         (gone_seats (set x.seats p (with_left standing)) (map served_call (filter (is_for p) x.pending)))
@@ -225,14 +234,14 @@ module _ (m : Meaning) where
 
     -- it made another, where there are not too many
     pub rest-create :
-        (x : Contents P) (p : ℕ) (process new : P) (standing : ProcessStanding) (b : Bool)
+        (x : Contents P) (p : ℕ) (process new : P) (standing : ProcessStanding) (left : List (ℕ × Who)) (b : Bool)
         → is_over standing ≡ true
         → AllRest m x
-        → AllRest m (if b then made_contents x p process new else left_contents x p standing)
-    rest-create x p process new standing true over all =
+        → AllRest m (if b then made_contents x p process new else left_contents x p standing left)
+    rest-create x p process new standing left true over all =
         rest-push (set x.seats p (with_ready process (Made (record { 0 = length x.seats })))) x.pending (with_ready new Go) (λ q. (refl, refl))
         (rest-ready x.seats x.pending p process (Made (record { 0 = length x.seats })) all)
-    rest-create x p process new standing false over all = rest-left x p standing over all
+    rest-create x p process new standing left false over all = rest-left x p standing left over all
 
     -- where one was not at rest, and goes on
     rest-but-set : (seats : List (Seat P)) (calls : List TransactionCall) (at : ℕ) (seat : Seat P) → RestsSo m at seat.standing calls → ((p : ℕ) → p ≢ at → RestsSo m p (seat_at seats p).standing calls) → at < length seats → Rest (set seats at seat) calls
@@ -243,13 +252,13 @@ module _ (m : Meaning) where
         ]
 
     -- it takes a call
-    pub rest-accepted : (x : Contents P) (p : Pid) (i : ℕ) (call : TransactionCall) → p.0 < length x.seats → RestBut m x (Some p) → AllRest m (accepted_contents x p.0 i call)
+    pub rest-accepted : (x : Contents P) (p : Pid) (i : ℕ) (call : TransactionCall) → p.0 < length x.seats → RestBut m x (Some p) → AllRest m (accepted_contents x p i call)
     rest-accepted x p i call lt all q =
         filtered-at (set x.seats p.0 (woken (seat_at x.seats p.0) (Took i call.args))) (λ other. not (nat_eq other.number.0 call.number.0)) x.pending q
         (rest-but-set x.seats x.pending p.0 (woken (seat_at x.seats p.0) (Took i call.args)) (refl, refl) all lt q)
 
     -- it takes an immediate alternative
-    pub rest-chose : (x : Contents P) (p : Pid) (i : ℕ) → p.0 < length x.seats → RestBut m x (Some p) → AllRest m (chose_contents x p.0 i)
+    pub rest-chose : (x : Contents P) (p : Pid) (i : ℕ) → p.0 < length x.seats → RestBut m x (Some p) → AllRest m (chose_contents x p i)
     rest-chose x p i lt all = rest-but-set x.seats x.pending p.0 (woken (seat_at x.seats p.0) (Chose i)) (refl, refl) all lt
 
     -- the one that was roused can take nothing either
@@ -336,6 +345,14 @@ module _ (m : Meaning) where
         none-immediate f n (seat ∷ seats) h zero = either (f n) seat (h 0)
         none-immediate f n (seat ∷ seats) h (suc p) = none-immediate f (n + 1) seats (λ i. h (suc i)) p
 
+    pub rest-at : (located : P → ℕ → List ℤ → List Grant → Type 0) (s : State) (x : Contents P) → IsState located s x → AllRest m x → (p : ℕ) → (has_eligible m s p ≡ false) × (has_immediate s p ≡ false)
+    rest-at located s x k all p = (
+      ap (λ st. eligible_for m p st s.pending) (sym (same-standing located s.processes x.seats p k.seated))
+          ∙ ap (eligible_for m p (seat_at x.seats p).standing) (sym k.pending)
+          ∙ (all p).0,
+      ap some_immediate (sym (same-standing located s.processes x.seats p k.seated)) ∙ (all p).1,
+    )
+
     -- where none can take anything, no call and no immediate alternative can be taken
     pub rest-calm : (located : P → ℕ → List ℤ → List Grant → Type 0) (s : State) (x : Contents P) → IsState located s x → AllRest m x → IsCalm m s
     rest-calm located s x k all =
@@ -349,13 +366,10 @@ module _ (m : Meaning) where
         and-first false b h = refl
 
         eligible : (p : ℕ) → has_eligible m s p ≡ false
-        eligible p =
-            ap (λ st. eligible_for m p st s.pending) (sym (same-standing located s.processes x.seats p k.seated))
-            ∙ ap (eligible_for m p (seat_at x.seats p).standing) (sym k.pending)
-            ∙ (all p).0
+        eligible p = (rest-at located s x k all p).0
 
         immediate : (p : ℕ) → has_immediate s p ≡ false
-        immediate p = ap some_immediate (sym (same-standing located s.processes x.seats p k.seated)) ∙ (all p).1
+        immediate p = (rest-at located s x k all p).1
 
         none-acceptable : (j : ℕ) → j < length s.pending → is_acceptable m s (get_or s.pending j no_call) ≡ false
         none-acceptable j lt =

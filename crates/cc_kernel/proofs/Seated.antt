@@ -5,7 +5,7 @@ use Rattle.std.specs.Option.{option_map_or}
 use Rattle.cc_base.specs.declared.names.Pid.{Pid}
 use Rattle.cc_base.specs.declared.request.Grant.{Grant}
 use Rattle.cc_base.specs.declared.request.Grant.TheVariants.{Gone}
-use Rattle.cc_kernel.specs.Store.{IsReady, IsPlain, WhereaboutsFit, SeatFits, Seated}
+use Rattle.cc_kernel.specs.Store.{IsReady, AreNumbered, WhereaboutsFit, SeatFits, Seated}
 use Rattle.cc_kernel.specs.Contract.{is_out_in}
 use Rattle.cc_kernel.specs.Seats.{answered_seats, gone_seats, is_out, whereabouts_out, is_ready, whereabouts_ready, seat_at, served_call, with_left, with_out, with_ready, with_waiting, woken, whereabouts_woken}
 use Rattle.cc_kernel.specs.declared.seat.Whereabouts.{Whereabouts}
@@ -95,12 +95,12 @@ module _ {P : Type 0} (located : P → ℕ → List ℤ → List Grant → Type 
   same-standing [] (seat ∷ seats) i h = absurd h
   same-standing (q ∷ qs) [] i h = absurd h
 
-  pub plain-at : (qs : List Process) (seats : List (Seat P)) (i : ℕ) → Seated located qs seats → IsPlain (process_at qs i).standing
-  plain-at [] [] i h = tt
-  plain-at (q ∷ qs) (seat ∷ seats) zero h = h.0.plain
-  plain-at (q ∷ qs) (seat ∷ seats) (suc i) h = plain-at qs seats i h.1
-  plain-at [] (seat ∷ seats) i h = absurd h
-  plain-at (q ∷ qs) [] i h = absurd h
+  pub numbered-at : (qs : List Process) (seats : List (Seat P)) (i : ℕ) → Seated located qs seats → AreNumbered (process_at qs i).standing
+  numbered-at [] [] i h = tt
+  numbered-at (q ∷ qs) (seat ∷ seats) zero h = h.0.numbered
+  numbered-at (q ∷ qs) (seat ∷ seats) (suc i) h = numbered-at qs seats i h.1
+  numbered-at [] (seat ∷ seats) i h = absurd h
+  numbered-at (q ∷ qs) [] i h = absurd h
 
   -- a process that is here and goes on; what it serves does not matter
   pub Seated-ready :
@@ -112,28 +112,28 @@ module _ {P : Type 0} (located : P → ℕ → List ℤ → List Grant → Type 
       (set seats i (with_ready process grant))
   Seated-ready qs seats i process grant serving h is =
       Seated-set qs seats i (record (granted (process_at qs i) grant) { serving = serving }) (with_ready process grant) h
-      (record { standing = refl; whereabouts = (refl, ((process_at qs i).grants, refl, is)); plain = tt })
+      (record { standing = refl; whereabouts = (refl, ((process_at qs i).grants, refl, is)); numbered = tt })
 
   -- a process that waits
   pub Seated-waiting :
       (qs : List Process) (seats : List (Seat P)) (i : ℕ) (process : P) (standing : ProcessStanding)
       → Seated located qs seats
-      → (is_over standing ≡ false) × (is_running standing ≡ false) × IsPlain standing
+      → (is_over standing ≡ false) × (is_running standing ≡ false) × AreNumbered standing
       → located process (process_at qs i).kind (process_at qs i).args (process_at qs i).grants
       → Seated located (with_standing qs i standing) (set seats i (with_waiting process standing))
   Seated-waiting qs seats i process standing h w is =
       Seated-set qs seats i (record (process_at qs i) { standing = standing }) (with_waiting process standing) h
-      (record { standing = refl; whereabouts = (w.0, w.1, is); plain = w.2 })
+      (record { standing = refl; whereabouts = (w.0, w.1, is); numbered = w.2 })
 
   -- a process that is over
   pub Seated-left :
       (qs : List Process) (seats : List (Seat P)) (i : ℕ) (standing : ProcessStanding)
       → Seated located qs seats
-      → (is_over standing ≡ true) × IsPlain standing
+      → (is_over standing ≡ true) × AreNumbered standing
       → Seated located (set qs i (record (process_at qs i) { standing = standing; serving = [] })) (set seats i (with_left standing))
   Seated-left qs seats i standing h w =
       Seated-set qs seats i (record (process_at qs i) { standing = standing; serving = [] }) (with_left standing) h
-      (record { standing = refl; whereabouts = w.0; plain = w.1 })
+      (record { standing = refl; whereabouts = w.0; numbered = w.1 })
 
   -- a process that goes out
   pub Seated-out :
@@ -145,7 +145,7 @@ module _ {P : Type 0} (located : P → ℕ → List ℤ → List Grant → Type 
   Seated-out qs seats i lt r h =
       let fits = Seated-at qs seats i lt h in
       Seated-set qs seats i (process_at qs i) (with_out (seat_at seats i)) h
-      (record { standing = fits.standing; whereabouts = r; plain = fits.plain })
+      (record { standing = fits.standing; whereabouts = r; numbered = fits.numbered })
 
   out-running-place : (q : Process) (x : Whereabouts P) → WhereaboutsFit located q x → whereabouts_out x ≡ true → is_running q.standing ≡ true
   out-running-place q (Ready process grant) h e = h.0
@@ -216,7 +216,7 @@ module _ {P : Type 0} (located : P → ℕ → List ℤ → List Grant → Type 
       → SeatFits located q seat
       → SeatFits located (record (granted q grant) { serving = serving }) (woken seat grant)
   woken-fits q seat grant serving r o h =
-      record { standing = refl; whereabouts = served-place (whereabouts_woken seat.whereabouts grant) (woken-fits-place q seat.whereabouts grant r o h.whereabouts); plain = tt }
+      record { standing = refl; whereabouts = served-place (whereabouts_woken seat.whereabouts grant) (woken-fits-place q seat.whereabouts grant r o h.whereabouts); numbered = tt }
     where
       served-place :
           (x : Whereabouts P)

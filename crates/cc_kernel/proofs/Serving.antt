@@ -1,10 +1,10 @@
 -- Calls by number.
-use Rattle.std.proofs.Common.{rules, ◌≡◌, ℕ, suc, ◌+◌, ◌<◌, ◌≤◌, Bool, true, false, cond, not, List, [], ◌∷◌, ◌++◌, length, get_or, refl, sym, ap, ◌∙◌, arith, nat_eq, Some}
+use Rattle.std.proofs.Common.{rules, ◌≡◌, ℕ, suc, ◌+◌, ◌<◌, ◌≤◌, Bool, true, false, ◌||◌, cond, not, List, [], ◌∷◌, ◌++◌, length, get_or, refl, sym, ap, ◌∙◌, arith, nat_eq, Some, None}
 use Rattle.std.specs.Prelude.{All}
-use Rattle.std.specs.List.{filter}
+use Rattle.std.specs.List.{filter, list_any}
 use Rattle.std.proofs.lemmas.Bool.{eqb-true}
 use Rattle.std.proofs.lemmas.List.Elements.{All-cons, All-nil}
-use Rattle.cc_kernel.specs.Store.{AllUntimed, IsUntimed, Rising}
+use Rattle.cc_kernel.specs.Store.{Rising}
 use Rattle.cc_kernel.specs.Seats.{no_call}
 use Rattle.cc_rules.specs.Choice.{call_numbered}
 use Rattle.cc_rules.specs.declared.process.TransactionCall.{TransactionCall}
@@ -92,17 +92,36 @@ Rising-below low (call ∷ calls) high h =
     let r = Rising-le (call.number.0 + 1) calls high h.1 in
     All-cons (λ c. c.number.0 < high) call calls (omega (arith, r)) (Rising-below (call.number.0 + 1) calls high h.1)
 
-pub AllUntimed-push : (calls : List TransactionCall) (call : TransactionCall) → AllUntimed calls → IsUntimed call.waiting → AllUntimed (calls ++ call ∷ [])
-AllUntimed-push [] call h k = (k, tt)
-AllUntimed-push (other ∷ calls) call h k = (h.0, AllUntimed-push calls call h.1 k)
+-- the next number is that of no call
+pub unasked : (low : ℕ) (calls : List TransactionCall) (high : ℕ) → Rising low calls high → call_numbered calls high ≡ None
+unasked low [] high h = refl
+unasked low (call ∷ calls) high h =
+    let le = Rising-le (call.number.0 + 1) calls high h.1 in
+    rw (not-same call.number.0 high (omega (arith, le))) (unasked (call.number.0 + 1) calls high h.1)
 
-untimed-if : (call : TransactionCall) (calls : List TransactionCall) (b : Bool) → IsUntimed call.waiting → AllUntimed calls → AllUntimed (cond b (call ∷ calls) calls)
-untimed-if call calls true h k = (h, k)
-untimed-if call calls false h k = k
+-- what holds of each call that is found by its number
+pub found-own : (call : TransactionCall) (calls : List TransactionCall) → call_numbered (call ∷ calls) call.number.0 ≡ Some call
+found-own call calls = rw (same-number call.number.0) refl
 
-pub AllUntimed-filter : (p : TransactionCall → Bool) (calls : List TransactionCall) → AllUntimed calls → AllUntimed (filter p calls)
-AllUntimed-filter p [] h = tt
-AllUntimed-filter p (call ∷ calls) h = untimed-if call (filter p calls) (p call) h.0 (AllUntimed-filter p calls h.1)
+pub found-behind : (call : TransactionCall) (calls : List TransactionCall) (n : ℕ) → call.number.0 < n → call_numbered (call ∷ calls) n ≡ call_numbered calls n
+found-behind call calls n lt = rw (not-same call.number.0 n lt) refl
+
+-- a test that fails of each call that is found by its number fails of all
+pub none-found :
+    (test : TransactionCall → Bool) (low : ℕ) (calls : List TransactionCall) (high : ℕ)
+    → Rising low calls high
+    → ((n : ℕ) (call : TransactionCall) → low ≤ n → call_numbered calls n ≡ Some call → test call ≡ false)
+    → list_any test calls ≡ false
+none-found test low [] high rising h = refl
+none-found test low (call ∷ calls) high rising h =
+    let from : low ≤ call.number.0 = rising.0 in
+    both (test call) (list_any test calls) (h call.number.0 call from (found-own call calls))
+    (none-found test (call.number.0 + 1) calls high rising.1
+    (λ n other le found. h n other (omega (arith, from, le)) (found-behind call calls n (omega (arith, le)) ∙ found)))
+  where
+    both : (a b : Bool) → a ≡ false → b ≡ false → (a || b) ≡ false
+    both true b e f = cc
+    both false b e f = f
 
 -- a filter makes no list longer
 pub length-filtered : {A : Type 0} (p : A → Bool) (xs : List A) → length (filter p xs) ≤ length xs

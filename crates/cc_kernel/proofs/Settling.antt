@@ -1,42 +1,49 @@
 -- A call or an immediate alternative is taken: it is legal, and what is kept goes on as the state does.
 use Rattle.std.proofs.Common.{◌≡◌, inl, inr, ℕ, zero, suc, ◌<◌, ◌≤◌, ℤ, Bool, true, false, ◌||◌, not, List, [], ◌∷◌, ◌++◌, length, set, map, refl, sym, ap, ◌∙◌, arith, nat_eq, append_assoc, append-nil, Option, Some, None, ◌&&◌}
 use Rattle.std.specs.Prelude.{if◌then◌else◌}
-use Rattle.std.specs.List.{filter, list_all}
+use Rattle.std.specs.List.{filter, list_all, list_any}
 use Rattle.std.proofs.lemmas.Bool.{eqb-true, le-leb}
+use Rattle.std.proofs.lemmas.List.Folds.{list_any_at}
 use Rattle.std.proofs.lemmas.List.{length-set}
 use Rattle.std.proofs.lemmas.List.Elements.{All-nil, All-push}
 use Rattle.cc_base.specs.Meaning.{Meaning}
 use Rattle.cc_base.specs.declared.request.Grant.{Grant}
-use Rattle.cc_base.specs.declared.request.Grant.TheVariants.{Chose, Go, Took}
-use Rattle.cc_kernel.proofs.Plain.{any-numbered, choosing-not-due, delaying-stays-on, not-due-where, takes-eligible}
-use Rattle.cc_kernel.proofs.Seated.{Seated-at, Seated-length, Seated-set, plain-at, same-standing, woken-fits}
-use Rattle.cc_kernel.proofs.Timed.{changed-timed, deadlines-fewer, deadlines-stay, open-none, set-deadline}
-use Rattle.cc_kernel.proofs.Serving.{AllUntimed-filter, Rising-filter, found-at}
-use Rattle.cc_kernel.proofs.Simulates.{map-append, same-or-not, serving-other, serving-own, serving-set, untimed-kept}
+use Rattle.cc_base.specs.declared.request.Grant.TheVariants.{Chose, Late, Took}
+use Rattle.cc_kernel.proofs.Dues.{expires-now}
+use Rattle.cc_kernel.proofs.Outs.{length-answered}
+use Rattle.cc_kernel.proofs.Plain.{any-numbered, choosing-not-due, false-from, takes-eligible}
+use Rattle.cc_kernel.proofs.Seated.{Seated-answered, Seated-at, Seated-length, Seated-set, numbered-at, same-standing, woken-fits}
+use Rattle.cc_kernel.proofs.Timed.{answered-timed, goes-timed, taken-timed}
+use Rattle.cc_kernel.proofs.Serving.{Rising-filter, found-at}
+use Rattle.cc_kernel.proofs.Simulates.{map-append, same-or-not, serving-answered, serving-other, serving-own, serving-set}
 use Rattle.cc_base.specs.Alternatives.{numbered}
 use Rattle.cc_base.specs.declared.alternatives.Alt.{Alt}
 use Rattle.cc_base.specs.declared.alternatives.Alt.TheVariants as alt
 use Rattle.cc_base.specs.declared.names.CallId.{CallId}
 use Rattle.cc_base.specs.declared.names.Pid.{Pid}
 use Rattle.cc_kernel.specs.Choice.{eligible_for, goes_at_once}
-use Rattle.cc_rules.specs.Choice.{accepts, call_numbered, goes_before, has_eligible, has_immediate, is_chosen, is_immediate, rank, takes_at_once}
+use Rattle.cc_rules.specs.Choice.{accepts, call_deadline, call_numbered, goes_before, has_eligible, has_immediate, is_acceptable, is_chosen, is_immediate, rank, takes_at_once}
 use Rattle.std.specs.Option.{option_map_or}
 use Rattle.std.proofs.lemmas.Bool.{and_parts}
-use Rattle.cc_kernel.specs.Store.{IsState, Contents, accepted_contents, chose_contents, expired_contents}
-use Rattle.cc_kernel.specs.Timed.{deadline_of}
+use Rattle.cc_kernel.specs.Counted.{IsWaiting}
+use Rattle.cc_kernel.specs.Due.{due_of}
+use Rattle.cc_kernel.specs.Store.{IsState, Contents, accepted_contents, chose_contents, expired_contents, withdrawn_contents, woken_contents}
+use Rattle.cc_kernel.specs.declared.due.Due.{Due}
 use Rattle.cc_kernel.specs.Seats.{no_call, seat_at, served_call, woken}
 use Rattle.cc_kernel.proofs.Stacks.{one-more-other, one-more-own}
 use Rattle.cc_kernel.specs.Stacks.{one_more}
-use Rattle.cc_kernel.specs.Settles.{GoesOn, TakesOne}
+use Rattle.cc_kernel.specs.Settles.{GoesOn, IsCalm, TakesOne}
 use Rattle.cc_kernel.specs.declared.seat.Seat.{Seat}
 use Rattle.cc_kernel.specs.declared.served.ServedCall.{ServedCall}
 use Rattle.cc_rules.proofs.GoOn.{IsRunFrom-append, after-append}
-use Rattle.cc_rules.specs.Effects.{granted}
-use Rattle.cc_rules.specs.Events.{accepted, next}
+use Rattle.cc_rules.specs.Effects.{grant_to, granted}
+use Rattle.cc_rules.specs.Ends.{is_due}
+use Rattle.cc_rules.proofs.Bools.{both-ways}
+use Rattle.cc_rules.specs.Events.{accepted, expiry_grant, next, withdrawn}
 use Rattle.cc_rules.specs.Runs.{after, is_settling}
 use Rattle.cc_rules.specs.State.{Process, State, is_over, is_running, open_alternatives, process_at}
 use Rattle.cc_rules.specs.declared.event.Event.{Event}
-use Rattle.cc_rules.specs.declared.event.Event.TheVariants.{Accept, Expire, Instant, Time}
+use Rattle.cc_rules.specs.declared.event.Event.TheVariants.{Accept, Expire, Instant, Time, Withdraw}
 use Rattle.cc_rules.specs.declared.process.ProcessStanding.{ProcessStanding}
 use Rattle.cc_rules.specs.declared.process.ProcessStanding.TheVariants.{Running, AtSelect, AtDelay, AtCall, Ended, Faulted}
 use Rattle.cc_rules.specs.declared.process.TransactionCall.{TransactionCall}
@@ -120,7 +127,6 @@ module _ {P : Type 0} (m : Meaning) (located : P → ℕ → List ℤ → List G
         input = k.input;
         moment = k.moment;
         rising = k.rising;
-        untimed = k.untimed;
         timed = k.timed;
       }
 
@@ -136,41 +142,107 @@ module _ {P : Type 0} (m : Meaning) (located : P → ℕ → List ℤ → List G
         input = k.input;
         moment = refl;
         rising = k.rising;
-        untimed = k.untimed;
         timed = k.timed;
+      }
+
+  -- a process that waits goes on with this grant
+  state-woken :
+      (s : State) (x : Contents P) (p : Pid) (grant : Grant)
+      → IsState located s x
+      → (is_running (process_at s.processes p.0).standing ≡ false) × (is_over (process_at s.processes p.0).standing ≡ false)
+      → IsState located (record s { processes = grant_to s.processes p.0 grant }) (woken_contents x p grant)
+  state-woken s x p grant k waits =
+      let q = process_at s.processes p.0 in
+      let over : is_over (seat_at x.seats p.0).standing ≡ false = ap is_over (same-standing located s.processes x.seats p.0 k.seated) ∙ waits.1 in
+      let within = waits-within x.seats p.0 over in
+      record {
+        seated =
+            Seated-set located s.processes x.seats p.0 (granted q grant) (woken (seat_at x.seats p.0) grant) k.seated
+            (woken-fits located q (seat_at x.seats p.0) grant q.serving waits.0 waits.1 (Seated-at located s.processes x.seats p.0 within k.seated));
+        few = rw length-set k.few;
+        pending = k.pending;
+        served = λ j. k.served j ∙ ap (map served_call) (sym (serving-set s.processes p.0 j (granted q grant) refl));
+        drawn = k.drawn;
+        input = k.input;
+        moment = k.moment;
+        rising = k.rising;
+        timed = goes-timed x.seats x.pending x.deadlines p (woken (seat_at x.seats p.0) grant) within refl k.timed;
       }
 
   -- where the kept calls are written as those of the state
   state-accepted :
-      (s : State) (x : Contents P) (p i : ℕ) (call : TransactionCall)
+      (s : State) (x : Contents P) (p : Pid) (i : ℕ) (call : TransactionCall)
       → IsState located s x
-      → call.target.0 ≡ p
-      → (is_running (process_at s.processes p).standing ≡ false) × (is_over (process_at s.processes p).standing ≡ false)
-      → deadline_of (process_at s.processes p).standing ≡ None
-      → IsState located (accepted s p i call) (accepted_contents x p i call)
-  state-accepted s x p i call k here waits none =
-      let q = process_at s.processes p in
-      let over : is_over (seat_at x.seats p).standing ≡ false = ap is_over (same-standing located s.processes x.seats p k.seated) ∙ waits.1 in
-      let within = waits-within x.seats p over in
+      → call_numbered x.pending call.number.0 ≡ Some call
+      → call.target.0 ≡ p.0
+      → (is_running (process_at s.processes p.0).standing ≡ false) × (is_over (process_at s.processes p.0).standing ≡ false)
+      → IsState located (accepted s p.0 i call) (accepted_contents x p i call)
+  state-accepted s x p i call k found here waits =
+      let q = process_at s.processes p.0 in
+      let over : is_over (seat_at x.seats p.0).standing ≡ false = ap is_over (same-standing located s.processes x.seats p.0 k.seated) ∙ waits.1 in
+      let within = waits-within x.seats p.0 over in
       let new : Process = record (granted q (Took i call.args)) { serving = q.serving ++ call ∷ [] } in
+      let seat : Seat P = woken (seat_at x.seats p.0) (Took i call.args) in
       record {
         seated =
-            Seated-set located s.processes x.seats p new (woken (seat_at x.seats p) (Took i call.args)) k.seated
-            (woken-fits located q (seat_at x.seats p) (Took i call.args) (q.serving ++ call ∷ []) waits.0 waits.1
-            (Seated-at located s.processes x.seats p within k.seated));
+            Seated-set located s.processes x.seats p.0 new seat k.seated
+            (woken-fits located q (seat_at x.seats p.0) (Took i call.args) (q.serving ++ call ∷ []) waits.0 waits.1
+            (Seated-at located s.processes x.seats p.0 within k.seated));
         few = rw length-set k.few;
         pending = ap (filter (λ other. not (nat_eq other.number.0 call.number.0))) k.pending;
-        served = λ j. served-more j p call x.served s.processes new (rw (Seated-length located s.processes x.seats k.seated) within) refl (k.served j);
+        served = λ j. served-more j p.0 call x.served s.processes new (rw (Seated-length located s.processes x.seats k.seated) within) refl (k.served j);
         drawn = k.drawn;
         input = k.input;
         moment = k.moment;
         rising = Rising-filter (λ other. not (nat_eq other.number.0 call.number.0)) 0 s.pending s.drawn k.rising;
-        untimed = AllUntimed-filter (λ other. not (nat_eq other.number.0 call.number.0)) s.pending k.untimed;
         timed =
-            deadlines-stay x.seats (set x.seats p (woken (seat_at x.seats p) (Took i call.args)))
-            x.pending (filter (λ other. not (nat_eq other.number.0 call.number.0)) x.pending) x.deadlines
-            (λ j. set-deadline x.seats p j (woken (seat_at x.seats p) (Took i call.args)) (sym (ap deadline_of (same-standing located s.processes x.seats p k.seated) ∙ none)))
-            (untimed-kept located s x k) (AllUntimed-filter (λ other. not (nat_eq other.number.0 call.number.0)) x.pending (untimed-kept located s x k)) k.timed;
+            goes-timed x.seats (filter (λ other. not (nat_eq other.number.0 call.number.0)) x.pending) _ p seat within refl
+            (taken-timed x.seats x.pending x.deadlines call.number call found k.timed);
+      }
+
+  -- a pending call is withdrawn
+  state-withdrawn :
+      (s : State) (x : Contents P) (number : CallId) (call : TransactionCall)
+      → IsState located s x
+      → call_numbered x.pending number.0 ≡ Some call
+      → call.number.0 ≡ number.0
+      → IsState located (withdrawn s call) (withdrawn_contents x call)
+  state-withdrawn s x number call k found same =
+      record {
+        seated = Seated-answered located s.processes x.seats call Late k.seated;
+        few = rw (length-answered x.seats (served_call call) Late) k.few;
+        pending = ap (filter (λ other. not (nat_eq other.number.0 call.number.0))) k.pending;
+        served = λ j. k.served j ∙ ap (map served_call) (sym (serving-answered s.processes call j Late));
+        drawn = k.drawn;
+        input = k.input;
+        moment = k.moment;
+        rising = Rising-filter (λ other. not (nat_eq other.number.0 call.number.0)) 0 s.pending s.drawn k.rising;
+        timed =
+            answered-timed x.seats (filter (λ other. not (nat_eq other.number.0 call.number.0)) x.pending) _ (served_call call) Late
+            (taken-timed x.seats x.pending x.deadlines call.number call (ap (call_numbered x.pending) same ∙ found) k.timed);
+      }
+
+  -- its deadline has come, where no call can be taken and the collective end is not due
+  pub withdraws-one :
+      (s : State) (x : Contents P) (number : CallId) (call : TransactionCall) (deadline : ℕ)
+      → IsState located s x
+      → IsCalm m s
+      → is_due m s ≡ false
+      → call_numbered x.pending number.0 ≡ Some call
+      → call_deadline call.waiting ≡ Some deadline
+      → deadline ≤ x.moment
+      → TakesOne m located s (Withdraw number) (withdrawn_contents x call)
+  withdraws-one s x number call deadline k calm due found has come =
+      let found' : call_numbered s.pending number.0 ≡ Some call = ap (λ calls. call_numbered calls number.0) (sym k.pending) ∙ found in
+      let at = found-at s.pending number.0 call found' in
+      let now : deadline ≤ s.moment = rw (← k.moment) come in
+      let none : is_acceptable m s call ≡ false =
+      false-from (is_acceptable m s call)
+      (λ h. both-ways (list_any (is_acceptable m s) s.pending) (list_any_at (is_acceptable m s) s.pending at.1.0 no_call at.1.1 (ap (is_acceptable m s) at.1.2 ∙ h)) calm.no_call) in
+      record {
+        legal = rw (due, found', has, le-leb deadline s.moment now, none) refl;
+        settling = refl;
+        state = rw found' (any-time (withdrawn s call) (withdrawn_contents x call) false (state-withdrawn s x number call k found at.0));
       }
 
   -- a call is taken
@@ -179,7 +251,7 @@ module _ {P : Type 0} (m : Meaning) (located : P → ℕ → List ℤ → List G
       → IsState located s x
       → call_numbered x.pending number.0 ≡ Some call
       → option_map_or (λ a. is_chosen m p.0 a x.pending call) (numbered (open_alternatives (seat_at x.seats p.0).standing) i) false ≡ true
-      → TakesOne m located s (Accept p i number) (accepted_contents x p.0 i call)
+      → TakesOne m located s (Accept p i number) (accepted_contents x p i call)
   accepts-one s x p i number call k found t =
       let same = same-standing located s.processes x.seats p.0 k.seated in
       let found' : call_numbered s.pending number.0 ≡ Some call = ap (λ calls. call_numbered calls number.0) (sym k.pending) ∙ found in
@@ -192,8 +264,7 @@ module _ {P : Type 0} (m : Meaning) (located : P → ℕ → List ℤ → List G
       record {
         legal = rw (due, found') t';
         settling = refl;
-        state = rw found' (any-time (accepted s p.0 i call) (accepted_contents x p.0 i call) false (state-accepted s x p.0 i call k (chosen-target m p.0 (numbered (open_alternatives (process_at s.processes p.0).standing) i) s.pending call t') waits
-            (open-none (λ a. is_chosen m p.0 a s.pending call) (process_at s.processes p.0).standing i (plain-at located s.processes x.seats p.0 k.seated) t')));
+        state = rw found' (any-time (accepted s p.0 i call) (accepted_contents x p i call) false (state-accepted s x p i call k (ap (call_numbered x.pending) at.0 ∙ found) (chosen-target m p.0 (numbered (open_alternatives (process_at s.processes p.0).standing) i) s.pending call t') waits));
       }
     where
       or-left : (a b : Bool) → a ≡ true → (a || b) ≡ true
@@ -206,7 +277,7 @@ module _ {P : Type 0} (m : Meaning) (located : P → ℕ → List ℤ → List G
       → IsState located s x
       → p.0 < length x.seats
       → goes_at_once m p.0 (seat_at x.seats p.0).standing x.pending i ≡ true
-      → TakesOne m located s (Instant p i) (chose_contents x p.0 i)
+      → TakesOne m located s (Instant p i) (chose_contents x p i)
   chooses-one s x p i k lt t =
       let same = same-standing located s.processes x.seats p.0 k.seated in
       let q = process_at s.processes p.0 in
@@ -218,65 +289,34 @@ module _ {P : Type 0} (m : Meaning) (located : P → ℕ → List ℤ → List G
       record {
         legal = rw due t';
         settling = refl;
-        state =
-            (record {
-              seated =
-                  Seated-set located s.processes x.seats p.0 (granted q (Chose i)) (woken (seat_at x.seats p.0) (Chose i)) k.seated
-                  (woken-fits located q (seat_at x.seats p.0) (Chose i) q.serving waits.0 waits.1 (Seated-at located s.processes x.seats p.0 lt k.seated));
-              few = rw length-set k.few;
-              pending = k.pending;
-              served = λ j. k.served j ∙ ap (map served_call) (sym (serving-set s.processes p.0 j (granted q (Chose i)) refl));
-              drawn = k.drawn;
-              input = k.input;
-              moment = k.moment;
-              rising = k.rising;
-              untimed = k.untimed;
-              timed =
-                  changed-timed x.seats x.pending x.deadlines p.0 (woken (seat_at x.seats p.0) (Chose i))
-                  (ap deadline_of same ∙ open-none is_immediate q.standing i (plain-at located s.processes x.seats p.0 k.seated) parts.0)
-                  refl (untimed-kept located s x k) k.timed;
-            });
+        state = any-time (record s { processes = grant_to s.processes p.0 (Chose i) }) (chose_contents x p i) false (state-woken s x p (Chose i) k waits);
       }
     where
       or-behind : (a b : Bool) → b ≡ true → (a || b) ≡ true
       or-behind true b h = refl
       or-behind false b h = h
 
-  -- a process has waited until its deadline
+  -- a process has waited until its deadline, where none can take anything and the collective end is not due
   pub expires-one :
-      (s : State) (x : Contents P) (p : Pid) (deadline : ℕ)
+      (s : State) (x : Contents P) (p : Pid) (d : Due)
       → IsState located s x
-      → (seat_at x.seats p.0).standing ≡ AtDelay deadline
-      → deadline ≤ x.moment
-      → TakesOne m located s (Expire p 0) (expired_contents x p deadline)
-  expires-one s x p deadline k at come =
+      → is_due m s ≡ false
+      → due_of (seat_at x.seats p.0).standing ≡ Some d
+      → IsWaiting (seat_at x.seats p.0).standing
+      → d.deadline ≤ x.moment
+      → (has_eligible m s p.0 ≡ false) × (has_immediate s p.0 ≡ false)
+      → TakesOne m located s (Expire p d.alt) (expired_contents x p d.alt)
+  expires-one s x p d k due at waits come rests =
       let q = process_at s.processes p.0 in
-      let same : q.standing ≡ AtDelay deadline = sym (same-standing located s.processes x.seats p.0 k.seated) ∙ at in
-      let lt = waits-within x.seats p.0 (ap is_over at) in
-      let within : p.0 < length s.processes = rw (Seated-length located s.processes x.seats k.seated) lt in
-      let due = not-due-where m s p.0 within (delaying-stays-on m s p.0 deadline same) in
+      let same = same-standing located s.processes x.seats p.0 k.seated in
+      let now : d.deadline ≤ s.moment = rw (← k.moment) come in
+      let here : due_of q.standing ≡ Some d = ap due_of (sym same) ∙ at in
       record {
-        legal =
-            (let now : deadline ≤ s.moment = rw (← k.moment) come in
-            rw (due, same) (le-leb deadline s.moment now));
+        legal = rw due (expires-now m s p.0 q.standing d (numbered-at located s.processes x.seats p.0 k.seated) here now rests.0 rests.1);
         settling = refl;
         state =
-            rw same
-            (record {
-              seated =
-                  Seated-set located s.processes x.seats p.0 (granted q Go) (woken (seat_at x.seats p.0) Go) k.seated
-                  (woken-fits located q (seat_at x.seats p.0) Go q.serving (ap is_running same) (ap is_over same) (Seated-at located s.processes x.seats p.0 lt k.seated));
-              few = rw length-set k.few;
-              pending = k.pending;
-              served = λ j. k.served j ∙ ap (map served_call) (sym (serving-set s.processes p.0 j (granted q Go) refl));
-              drawn = k.drawn;
-              input = k.input;
-              moment = k.moment;
-              rising = k.rising;
-              untimed = k.untimed;
-              timed =
-                  deadlines-fewer x.seats x.pending x.deadlines p (woken (seat_at x.seats p.0) Go) deadline lt (ap deadline_of at) refl k.timed;
-            });
+            any-time (record s { processes = grant_to s.processes p.0 (expiry_grant d.alt q.standing) }) (expired_contents x p d.alt) false
+            (rw (← same) (state-woken s x p (expiry_grant d.alt (seat_at x.seats p.0).standing) k (ap is_running (sym same) ∙ waits.0, ap is_over (sym same) ∙ waits.1)));
       }
 
   -- the journal is as it was

@@ -11,23 +11,23 @@ use Rattle.cc_base.specs.declared.request.Grant.{Grant}
 use Rattle.cc_base.specs.declared.request.Grant.TheVariants.{Go, Made, Gone, Byte}
 use Rattle.cc_kernel.proofs.Outs.{gone_seats-append, length-gone}
 use Rattle.cc_kernel.proofs.Seated.{Seated-gone, Seated-left, Seated-length, Seated-push, Seated-ready, Seated-waiting}
-use Rattle.cc_kernel.proofs.Serving.{AllUntimed-filter, AllUntimed-push, Rising-filter, Rising-push}
+use Rattle.cc_kernel.proofs.Serving.{Rising-filter, Rising-push, unasked}
 use Rattle.cc_kernel.proofs.Stacks.{none-served-other, none-served-own}
-use Rattle.cc_kernel.proofs.Timed.{changed-timed, deadlines-more, deadlines-stay, gone-deadline, over-none, push-deadline, running-none, set-deadline}
+use Rattle.cc_kernel.proofs.Timed.{asked-timed, changed-timed, pushed-timed, running-none, waits-timed}
 use Rattle.cc_kernel.specs.Stacks.{none_served}
-use Rattle.cc_kernel.specs.Timed.{deadline_of}
-use Rattle.cc_kernel.specs.Store.{AllUntimed, IsLocated, IsPlain, IsState, Contents, called_contents, delayed_contents, got_byte, left_contents, made_contents, sent_contents, waited, went_on}
+use Rattle.cc_kernel.specs.Timed.{AreDeadlines}
+use Rattle.cc_kernel.specs.Store.{IsLocated, AreNumbered, IsState, Contents, called_contents, delayed_contents, got_byte, left_contents, made_contents, sent_contents, waited, went_on}
 use Rattle.cc_kernel.specs.Seats.{gone_seats, seat_at, served_call, with_left, with_ready, with_waiting}
 use Rattle.cc_kernel.specs.declared.seat.Seat.{Seat}
 use Rattle.cc_base.specs.Limits.{most_processes}
-use Rattle.cc_timer.specs.Deadlines.{with_deadline}
-use Rattle.cc_timer.specs.declared.who.Who.TheVariants as who
 use Rattle.cc_rules.specs.Effects.{answered, called, caller_of, deadline_after, each_gets_gone, ended, first_byte, grant_to, granted, is_for, rest_of, waits_for, with_standing}
 use Rattle.cc_rules.specs.State.{Process, State, is_over, is_running, made, process_at}
 use Rattle.cc_rules.specs.declared.process.ProcessStanding.{ProcessStanding}
 use Rattle.cc_rules.specs.declared.process.ProcessStanding.TheVariants.{AtCall, AtDelay}
 use Rattle.cc_rules.specs.declared.process.TransactionCall.{TransactionCall}
-use Rattle.cc_rules.specs.declared.process.Waiting.TheVariants.{Caller, Nobody}
+use Rattle.cc_rules.specs.declared.process.Waiting.{Waiting}
+use Rattle.cc_rules.specs.declared.process.Waiting.TheVariants.{Nobody}
+use Rattle.cc_timer.specs.declared.who.Who.{Who}
 
 pub same-or-not : (i p : ℕ) → (i ≡ p) ⊎ (i ≢ p)
 same-or-not zero zero = inl refl
@@ -119,10 +119,6 @@ map-append f [] ys = refl
 map-append f (x ∷ xs) ys = ap (λ zs. f x ∷ zs) (map-append f xs ys)
 
 module _ {P : Type 0} (located : P → ℕ → List ℤ → List Grant → Type 0) where
-  -- no pending call that is kept has a deadline
-  pub untimed-kept : (s : State) (x : Contents P) → IsState located s x → AllUntimed x.pending
-  untimed-kept s x k = subst AllUntimed (sym k.pending) k.untimed
-
   -- it goes on at once
   pub state-go :
       (s : State) (x : Contents P) (p : ℕ) (process : P) (grant : Grant)
@@ -140,46 +136,21 @@ module _ {P : Type 0} (located : P → ℕ → List ℤ → List Grant → Type 
         input = k.input;
         moment = k.moment;
         rising = k.rising;
-        untimed = k.untimed;
-        timed = changed-timed x.seats x.pending x.deadlines p (with_ready process grant) (running-none (seat_at x.seats p).standing r) refl (untimed-kept s x k) k.timed;
+        timed = changed-timed x.seats x.pending x.deadlines p (with_ready process grant) (running-none (seat_at x.seats p).standing r) refl k.timed;
       }
 
   -- it waits
   pub state-wait :
-      (s : State) (x : Contents P) (p : ℕ) (process : P) (standing : ProcessStanding)
-      → IsState located s x
-      → is_running (seat_at x.seats p).standing ≡ true
-      → deadline_of standing ≡ None
-      → (is_over standing ≡ false) × (is_running standing ≡ false) × IsPlain standing
-      → IsLocated located s p process
-      → IsState located (record s { processes = with_standing s.processes p standing }) (waited x p process standing)
-  state-wait s x p process standing k r none w is =
-      record {
-        seated = Seated-waiting located s.processes x.seats p process standing k.seated w is;
-        few = rw length-set k.few;
-        pending = k.pending;
-        served = λ i. k.served i ∙ ap (map served_call) (sym (serving-set s.processes p i (record (process_at s.processes p) { standing = standing }) refl));
-        drawn = k.drawn;
-        input = k.input;
-        moment = k.moment;
-        rising = k.rising;
-        untimed = k.untimed;
-        timed = changed-timed x.seats x.pending x.deadlines p (with_waiting process standing) (running-none (seat_at x.seats p).standing r) none (untimed-kept s x k) k.timed;
-      }
-
-  -- it waits until the wait is over
-  state-delayed :
-      (s : State) (x : Contents P) (p : Pid) (process : P) (deadline : ℕ)
+      (s : State) (x : Contents P) (p : Pid) (process : P) (standing : ProcessStanding)
       → IsState located s x
       → is_running (seat_at x.seats p.0).standing ≡ true
       → p.0 < length x.seats
+      → (is_over standing ≡ false) × (is_running standing ≡ false) × AreNumbered standing
       → IsLocated located s p.0 process
-      → IsState located (record s { processes = with_standing s.processes p.0 (AtDelay deadline) })
-      (record x { seats = set x.seats p.0 (with_waiting process (AtDelay deadline)); deadlines = with_deadline (deadline, who.Process p) x.deadlines })
-  state-delayed s x p process deadline k r lt is =
-      let standing : ProcessStanding = AtDelay deadline in
+      → IsState located (record s { processes = with_standing s.processes p.0 standing }) (waited x p process standing)
+  state-wait s x p process standing k r lt w is =
       record {
-        seated = Seated-waiting located s.processes x.seats p.0 process standing k.seated (refl, refl, tt) is;
+        seated = Seated-waiting located s.processes x.seats p.0 process standing k.seated w is;
         few = rw length-set k.few;
         pending = k.pending;
         served = λ i. k.served i ∙ ap (map served_call) (sym (serving-set s.processes p.0 i (record (process_at s.processes p.0) { standing = standing }) refl));
@@ -187,10 +158,10 @@ module _ {P : Type 0} (located : P → ℕ → List ℤ → List Grant → Type 
         input = k.input;
         moment = k.moment;
         rising = k.rising;
-        untimed = k.untimed;
-        timed = deadlines-more x.seats x.pending x.deadlines p (with_waiting process standing) deadline lt (running-none (seat_at x.seats p.0).standing r) refl k.timed;
+        timed = waits-timed x.seats x.pending x.deadlines p (with_waiting process standing) lt (running-none (seat_at x.seats p.0).standing r) k.timed;
       }
 
+  -- it waits until the wait is over
   pub state-delay :
       (s : State) (x : Contents P) (p : Pid) (process : P) (wait : ℤ)
       → IsState located s x
@@ -200,21 +171,22 @@ module _ {P : Type 0} (located : P → ℕ → List ℤ → List Grant → Type 
       → IsState located (record s { processes = with_standing s.processes p.0 (AtDelay (deadline_after s.moment wait)) }) (delayed_contents x p process wait)
   state-delay s x p process wait k r lt is =
       let F : ℕ → Type 0 = λ n. IsState located (record s { processes = with_standing s.processes p.0 (AtDelay (deadline_after n wait)) }) (delayed_contents x p process wait) in
-      subst F k.moment (state-delayed s x p process (deadline_after x.moment wait) k r lt is)
+      subst F k.moment (state-wait s x p process (AtDelay (deadline_after x.moment wait)) k r lt (refl, refl, tt) is)
 
   -- a call is pending
   state-called :
-      (s : State) (x : Contents P) (p : Pid) (process : P) (target : Pid) (trans : ℕ) (args : List ℤ)
+      (s : State) (x : Contents P) (p : Pid) (process : P) (target : Pid) (trans : ℕ) (args : List ℤ) (waiting : Waiting)
       → IsState located s x
       → is_running (seat_at x.seats p.0).standing ≡ true
+      → p.0 < length x.seats
       → IsLocated located s p.0 process
       → IsState located
-      (called s (with_standing s.processes p.0 (AtCall (record { 0 = s.drawn }))) target trans args (Caller p))
-      (called_contents (record x { pending = s.pending; drawn = s.drawn }) p process target trans args)
-  state-called s x p process target trans args k r is =
+      (called s (with_standing s.processes p.0 (AtCall (record { 0 = s.drawn }))) target trans args waiting)
+      (called_contents (record x { pending = s.pending; drawn = s.drawn }) p process target trans args waiting)
+  state-called s x p process target trans args waiting k r lt is =
       let standing : ProcessStanding = AtCall (record { 0 = s.drawn }) in
-      let w = state-wait s x p.0 process standing k r refl (refl, refl, tt) is in
-      let call : TransactionCall = record { number = record { 0 = s.drawn }; target = target; trans = trans; args = args; waiting = Caller p } in
+      let w = state-wait s x p process standing k r lt (refl, refl, tt) is in
+      let call : TransactionCall = record { number = record { 0 = s.drawn }; target = target; trans = trans; args = args; waiting = waiting } in
       record {
         seated = w.seated;
         few = w.few;
@@ -224,22 +196,22 @@ module _ {P : Type 0} (located : P → ℕ → List ℤ → List Grant → Type 
         input = k.input;
         moment = k.moment;
         rising = Rising-push 0 s.pending s.drawn call refl k.rising;
-        untimed = AllUntimed-push s.pending call k.untimed tt;
         timed =
-            deadlines-stay (set x.seats p.0 (with_waiting process standing)) (set x.seats p.0 (with_waiting process standing)) x.pending (s.pending ++ call ∷ []) x.deadlines
-            (λ i. refl) (untimed-kept s x k) (AllUntimed-push s.pending call k.untimed tt) w.timed;
+            asked-timed (set x.seats p.0 (with_waiting process standing)) s.pending x.deadlines call (unasked 0 s.pending s.drawn k.rising)
+            (subst (λ calls. AreDeadlines (set x.seats p.0 (with_waiting process standing)) calls x.deadlines) k.pending w.timed);
       }
 
   pub state-call :
-      (s : State) (x : Contents P) (p : Pid) (process : P) (target : Pid) (trans : ℕ) (args : List ℤ)
+      (s : State) (x : Contents P) (p : Pid) (process : P) (target : Pid) (trans : ℕ) (args : List ℤ) (waiting : Waiting)
       → IsState located s x
       → is_running (seat_at x.seats p.0).standing ≡ true
+      → p.0 < length x.seats
       → IsLocated located s p.0 process
       → IsState located
-      (called s (with_standing s.processes p.0 (AtCall (record { 0 = s.drawn }))) target trans args (Caller p))
-      (called_contents x p process target trans args)
-  state-call s x p process target trans args k r is =
-      rw (k.pending, k.drawn) (state-called s x p process target trans args k r is)
+      (called s (with_standing s.processes p.0 (AtCall (record { 0 = s.drawn }))) target trans args waiting)
+      (called_contents x p process target trans args waiting)
+  state-call s x p process target trans args waiting k r lt is =
+      rw (k.pending, k.drawn) (state-called s x p process target trans args waiting k r lt is)
 
   -- it sends
   pub state-send :
@@ -261,21 +233,20 @@ module _ {P : Type 0} (located : P → ℕ → List ℤ → List Grant → Type 
         input = k.input;
         moment = k.moment;
         rising = Rising-push 0 s.pending s.drawn call refl k.rising;
-        untimed = AllUntimed-push s.pending call k.untimed tt;
         timed =
-            deadlines-stay (set x.seats p.0 (with_ready process Go)) (set x.seats p.0 (with_ready process Go)) x.pending (s.pending ++ call ∷ []) x.deadlines
-            (λ i. refl) (untimed-kept s x k) (AllUntimed-push s.pending call k.untimed tt) go.timed;
+            asked-timed (set x.seats p.0 (with_ready process Go)) s.pending x.deadlines call (unasked 0 s.pending s.drawn k.rising)
+            (subst (λ calls. AreDeadlines (set x.seats p.0 (with_ready process Go)) calls x.deadlines) k.pending go.timed);
       })
 
   -- it is over
   pub state-leave :
-      (s : State) (x : Contents P) (p : ℕ) (standing : ProcessStanding)
+      (s : State) (x : Contents P) (p : ℕ) (standing : ProcessStanding) (left : List (ℕ × Who))
       → IsState located s x
-      → is_running (seat_at x.seats p).standing ≡ true
       → p < length x.seats
-      → (is_over standing ≡ true) × IsPlain standing
-      → IsState located (ended s p standing) (left_contents x p standing)
-  state-leave s x p standing k r lt w =
+      → (is_over standing ≡ true) × AreNumbered standing
+      → AreDeadlines (left_contents x p standing left).seats (left_contents x p standing left).pending left
+      → IsState located (ended s p standing) (left_contents x p standing left)
+  state-leave s x p standing left k lt w timed =
       let q : Process = record (process_at s.processes p) { standing = standing; serving = [] } in
       record {
         seated =
@@ -296,16 +267,7 @@ module _ {P : Type 0} (located : P → ℕ → List ℤ → List Grant → Type 
         input = k.input;
         moment = k.moment;
         rising = Rising-filter (λ call. not (is_for p call)) 0 s.pending s.drawn k.rising;
-        untimed = AllUntimed-filter (λ call. not (is_for p call)) s.pending k.untimed;
-        timed =
-            deadlines-stay x.seats
-            (gone_seats (gone_seats (set x.seats p (with_left standing)) (map served_call (filter (is_for p) x.pending))) (x.served p))
-            x.pending (filter (λ call. not (is_for p call)) x.pending) x.deadlines
-            (λ i.
-            gone-deadline (gone_seats (set x.seats p (with_left standing)) (map served_call (filter (is_for p) x.pending))) (x.served p) i
-            ∙ gone-deadline (set x.seats p (with_left standing)) (map served_call (filter (is_for p) x.pending)) i
-            ∙ set-deadline x.seats p i (with_left standing) (over-none standing w.0 ∙ sym (running-none (seat_at x.seats p).standing r)))
-            (untimed-kept s x k) (AllUntimed-filter (λ call. not (is_for p call)) x.pending (untimed-kept s x k)) k.timed;
+        timed = timed;
       }
     where
       left-served :
@@ -341,7 +303,7 @@ module _ {P : Type 0} (located : P → ℕ → List ℤ → List Grant → Type 
       (record {
         seated =
             Seated-push located (grant_to s.processes p grant) (set x.seats p (with_ready process grant)) (made kind args) (with_ready new Go) go.seated
-            (record { standing = refl; whereabouts = (refl, ([], refl, starts)); plain = tt });
+            (record { standing = refl; whereabouts = (refl, ([], refl, starts)); numbered = tt });
         few = pushed-few (set x.seats p (with_ready process grant)) (with_ready new Go) (rw length-set lt);
         pending = k.pending;
         served = λ i. go.served i ∙ ap (map served_call) (sym (serving-push (grant_to s.processes p grant) (made kind args) i refl));
@@ -349,11 +311,7 @@ module _ {P : Type 0} (located : P → ℕ → List ℤ → List Grant → Type 
         input = k.input;
         moment = k.moment;
         rising = k.rising;
-        untimed = k.untimed;
-        timed =
-            deadlines-stay (set x.seats p (with_ready process grant)) (set x.seats p (with_ready process grant) ++ with_ready new Go ∷ []) x.pending x.pending x.deadlines
-            (λ i. push-deadline (set x.seats p (with_ready process grant)) (with_ready new Go) i refl)
-            (untimed-kept s x k) (untimed-kept s x k) go.timed;
+        timed = pushed-timed (set x.seats p (with_ready process grant)) x.pending x.deadlines (with_ready new Go) refl go.timed;
       })
     where
       pushed-few : (seats : List (Seat P)) (seat : Seat P) → length seats < most_processes → length (seats ++ seat ∷ []) ≤ most_processes
@@ -380,6 +338,5 @@ module _ {P : Type 0} (located : P → ℕ → List ℤ → List Grant → Type 
         input = rest-drop x.input x.taken;
         moment = k.moment;
         rising = k.rising;
-        untimed = k.untimed;
         timed = go.timed;
       })

@@ -1,31 +1,24 @@
 -- The deadlines that are kept stay those of the seats and of the pending calls.
-use Rattle.std.proofs.Common.{◌≡◌, ◌≢◌, inl, inr, ℕ, zero, suc, ◌+◌, ◌<◌, ◌≤◌, Bool, true, false, cond, ◌&&◌, ◌||◌, not, List, [], ◌∷◌, ◌++◌, length, set, filter, refl, sym, ap, ◌∙◌, subst, arith, nat_eq, Option, Some, None, All, Contains}
-use Rattle.std.specs.Prelude.{filter_map, if◌then◌else◌}
+use Rattle.std.proofs.Common.{◌≡◌, ◌≢◌, ◌⊎◌, inl, inr, ℕ, zero, suc, ◌+◌, ◌<◌, ◌≤◌, Bool, true, false, cond, ◌&&◌, ◌||◌, not, List, [], ◌∷◌, ◌++◌, length, set, refl, sym, ap, ◌∙◌, subst, arith, nat_eq, Option, Some, None, All, Contains, filter}
+use Rattle.std.specs.Prelude.{if◌then◌else◌}
 use Rattle.std.specs.Option.{option_map_or}
-use Rattle.std.proofs.lemmas.Bool.{and_parts, both_ways, cases_eq, eq-eqb, eqb-true, false_from_ne_true, or_cases}
+use Rattle.std.proofs.lemmas.Bool.{and_parts, both_ways, eq-eqb, eqb-true, false_from_ne_true, or_cases}
 use Rattle.std.proofs.lemmas.List.Elements.{All-head, All-tail}
 use Rattle.std.proofs.lemmas.List.Folds.{list_any_at}
+use Rattle.cc_base.specs.declared.names.CallId.{CallId}
 use Rattle.cc_base.specs.declared.names.Pid.{Pid}
 use Rattle.cc_base.specs.declared.request.Grant.{Grant}
 use Rattle.cc_base.specs.declared.request.Grant.TheVariants.{Gone}
-use Rattle.cc_kernel.specs.Contract.{least_of}
 use Rattle.cc_kernel.specs.Seats.{answered_seats, gone_seats, seat_at, woken}
-use Rattle.cc_kernel.specs.Store.{AllUntimed, IsPlain, IsUntimed}
-use Rattle.cc_kernel.specs.Timed.{AreDeadlines, deadline_of, is_moment, is_same, is_same_who, stands_in}
-use Rattle.cc_base.specs.Alternatives.{numbered}
-use Rattle.cc_base.specs.declared.alternatives.Alt.{Alt}
-use Rattle.cc_base.specs.declared.alternatives.Alt.TheVariants as alt
-use Rattle.cc_kernel.specs.Untimed.{IsNoDelay, NoDelays}
+use Rattle.cc_kernel.specs.Timed.{AreDeadlines, DeadlineStands, call_due, deadline_for, deadline_of, is_moment, is_same, is_same_who, stands_in, with_some, without_some}
 use Rattle.cc_kernel.specs.declared.seat.Seat.{Seat}
 use Rattle.cc_kernel.specs.declared.served.ServedCall.{ServedCall}
-use Rattle.cc_rules.specs.Choice.{alternative_deadline, call_deadline, call_numbered}
+use Rattle.cc_rules.specs.Choice.{call_deadline, call_numbered}
 use Rattle.cc_rules.specs.Effects.{caller_of, waits_for}
-use Rattle.cc_rules.specs.State.{is_over, is_running, open_alternatives}
+use Rattle.cc_rules.specs.State.{is_over, is_running}
 use Rattle.cc_rules.specs.declared.process.ProcessStanding.{ProcessStanding}
 use Rattle.cc_rules.specs.declared.process.ProcessStanding.TheVariants.{Running, AtSelect, AtDelay, AtCall, Ended, Faulted}
 use Rattle.cc_rules.specs.declared.process.TransactionCall.{TransactionCall}
-use Rattle.cc_rules.specs.declared.process.Waiting.{Waiting}
-use Rattle.cc_rules.specs.declared.process.Waiting.TheVariants.{Nobody, Caller, Until}
 use Rattle.cc_timer.proofs.Order.{never_before_itself, same_deadline}
 use Rattle.cc_timer.specs.Deadlines.{is_due_before, with_deadline, without_deadline}
 use Rattle.cc_timer.specs.declared.who.Who.{Who}
@@ -153,6 +146,14 @@ stands-without n w (x ∷ xs) k v = by (is_same n w x) refl (stands-without n w 
         ∙ kept (is_same k v (n, w)) (is_same k v x) (stands_in xs k v)
         (λ same. subst (λ (y : ℕ × Who). is_same y.0 y.1 x ≡ false) (sym (same-pair k v (n, w) same)) h)
 
+no-more : (n : ℕ) (w : Who) (ys : List (ℕ × Who)) → length (without_deadline (n, w) ys) ≤ length ys
+no-more n w [] = omega arith
+no-more n w (y ∷ ys) = step (is_due_before (n, w) y || is_due_before y (n, w)) (no-more n w ys)
+  where
+    step : (b : Bool) → length (without_deadline (n, w) ys) ≤ length ys → length (cond b (y ∷ without_deadline (n, w) ys) (without_deadline (n, w) ys)) ≤ length (y ∷ ys)
+    step true h = omega (arith, h)
+    step false h = omega (arith, h)
+
 -- there are fewer
 pub fewer-without :
     (n : ℕ) (w : Who) (ds : List (ℕ × Who))
@@ -161,14 +162,6 @@ pub fewer-without :
 fewer-without n w [] h = cc
 fewer-without n w (x ∷ xs) h = by (is_same n w x) refl h (λ t. fewer-without n w xs t)
   where
-    no-more : (ys : List (ℕ × Who)) → length (without_deadline (n, w) ys) ≤ length ys
-    no-more [] = omega arith
-    no-more (y ∷ ys) = step (is_due_before (n, w) y || is_due_before y (n, w)) (no-more ys)
-      where
-        step : (b : Bool) → length (without_deadline (n, w) ys) ≤ length ys → length (cond b (y ∷ without_deadline (n, w) ys) (without_deadline (n, w) ys)) ≤ length (y ∷ ys)
-        step true h = omega (arith, h)
-        step false h = omega (arith, h)
-
     by :
         (a : Bool)
         → is_same n w x ≡ a
@@ -177,7 +170,7 @@ fewer-without n w (x ∷ xs) h = by (is_same n w x) refl h (λ t. fewer-without 
         → length (cond (is_due_before (n, w) x || is_due_before x (n, w)) (x ∷ without_deadline (n, w) xs) (without_deadline (n, w) xs)) + 1 ≤ length (x ∷ xs)
     by true e h rest =
         subst (λ b. length (cond b (x ∷ without_deadline (n, w) xs) (without_deadline (n, w) xs)) + 1 ≤ length (x ∷ xs)) (sym (apart n w x ∙ ap not e))
-        (let r = no-more xs in omega (arith, r))
+        (let r = no-more n w xs in omega (arith, r))
     by false e h rest =
         subst (λ b. length (cond b (x ∷ without_deadline (n, w) xs) (without_deadline (n, w) xs)) + 1 ≤ length (x ∷ xs)) (sym (apart n w x ∙ ap not e))
         (let r = rest h in omega (arith, r))
@@ -207,23 +200,6 @@ of-standing F (x ∷ xs) n w all h =
 pub stands-there : (ds : List (ℕ × Who)) (n : ℕ) (w : Who) → Contains ds (n, w) → stands_in ds n w ≡ true
 stands-there ds n w at = list_any_at (is_same n w) ds at.0 (n, w) at.1 (ap (is_same n w) at.2 ∙ same-itself n w)
 
--- a call for which nobody waits until a moment has no deadline
-pub untimed-none : (calls : List TransactionCall) (n : ℕ) → AllUntimed calls → option_map_or (λ (call : TransactionCall). call_deadline call.waiting) (call_numbered calls n) None ≡ None
-untimed-none [] n h = refl
-untimed-none (call ∷ calls) n h = by (nat_eq call.number.0 n) (untimed-none calls n h.1)
-  where
-    untimed : (w : Waiting) → IsUntimed w → call_deadline w ≡ None
-    untimed Nobody k = refl
-    untimed (Caller p) k = refl
-    untimed (Until p deadline) k = absurd k
-
-    by :
-        (b : Bool)
-        → option_map_or (λ (other : TransactionCall). call_deadline other.waiting) (call_numbered calls n) None ≡ None
-        → option_map_or (λ (other : TransactionCall). call_deadline other.waiting) (cond b (Some call) (call_numbered calls n)) None ≡ None
-    by true rest = untimed call.waiting h.0
-    by false rest = rest
-
 -- who is running or over has no deadline
 pub running-none : (x : ProcessStanding) → is_running x ≡ true → deadline_of x ≡ None
 running-none Running h = refl
@@ -241,33 +217,6 @@ over-none (AtCall call) h = cc
 over-none Ended h = refl
 over-none (Faulted kind) h = refl
 
--- nor who waits for an alternative of which none is a delay
-pub no-delays-none : (asked : ℕ) (alts : List (ℕ × Alt)) → NoDelays alts → deadline_of (AtSelect alts asked) ≡ None
-no-delays-none asked alts h = ap least_of (nothing alts h)
-  where
-    no-delay : (a : Alt) → IsNoDelay a → alternative_deadline asked a ≡ None
-    no-delay (alt.Accept trans site env) k = refl
-    no-delay (alt.After wait) k = absurd k
-    no-delay alt.Now k = refl
-    no-delay alt.Terminate k = refl
-
-    nothing : (alts : List (ℕ × Alt)) → NoDelays alts → filter_map (λ (a : ℕ × Alt). alternative_deadline asked a.1) alts ≡ []
-    nothing [] k = refl
-    nothing (a ∷ alts) k = rw (no-delay a.1 k.0) (nothing alts k.1)
-
--- who has an open alternative has no deadline
-pub open-none :
-    (test : Alt → Bool) (x : ProcessStanding) (i : ℕ)
-    → IsPlain x
-    → option_map_or test (numbered (open_alternatives x) i) false ≡ true
-    → deadline_of x ≡ None
-open-none test Running i h k = cc
-open-none test (AtSelect alts asked) i h k = no-delays-none asked alts h
-open-none test (AtDelay deadline) i h k = cc
-open-none test (AtCall number) i h k = cc
-open-none test Ended i h k = cc
-open-none test (Faulted kind) i h k = cc
-
 -- who waits for a call has no deadline of his own
 calling-none : (x : ProcessStanding) (n : ℕ) → waits_for n x ≡ true → None ≡ deadline_of x
 calling-none Running n h = cc
@@ -277,19 +226,206 @@ calling-none (AtCall call) n h = refl
 calling-none Ended n h = cc
 calling-none (Faulted kind) n h = cc
 
-module _ {P : Type 0} where
-  -- the deadlines stay where those of the processes do, and no call has one
-  pub deadlines-stay :
-      (seats seats' : List (Seat P)) (calls calls' : List TransactionCall) (ds : List (ℕ × Who))
-      → ((i : ℕ) → deadline_of (seat_at seats' i).standing ≡ deadline_of (seat_at seats i).standing)
-      → AllUntimed calls
-      → AllUntimed calls'
-      → AreDeadlines seats calls ds
-      → AreDeadlines seats' calls' ds
-  deadlines-stay seats seats' calls calls' ds same u u' h n (who.Process p) = h n (who.Process p) ∙ ap (is_moment n) (sym (same p.0))
-  deadlines-stay seats seats' calls calls' ds same u u' h n (who.Call c) =
-      h n (who.Call c) ∙ ap (is_moment n) (untimed-none calls c.0 u ∙ sym (untimed-none calls' c.0 u'))
+-- the same one, or another
+who-cases : (v w : Who) → (v ≡ w) ⊎ (v ≢ w)
+who-cases v w = by (is_same_who v w) refl
+  where
+    by : (b : Bool) → is_same_who v w ≡ b → (v ≡ w) ⊎ (v ≢ w)
+    by true h = inl (same-who v w h)
+    by false h = inr (λ e. both_ways (is_same_who v w) h (ap (λ u. is_same_who u w) e ∙ who-itself w))
 
+other-who : (v w : Who) → v ≢ w → is_same_who v w ≡ false
+other-who v w ne = false_from_ne_true (is_same_who v w) (λ h. ne (same-who v w h))
+
+-- there are no more without one
+pub shorter-without : (o : Option ℕ) (w : Who) (ds : List (ℕ × Who)) → length (without_some o w ds) ≤ length ds
+shorter-without None w ds = omega arith
+shorter-without (Some n) w ds = no-more n w ds
+
+-- and one more at most with one
+pub longer-with : (o : Option ℕ) (w : Who) (ds : List (ℕ × Who)) → length (with_some o w ds) ≤ length ds + 1
+longer-with None w ds = omega arith
+longer-with (Some n) w ds = more-with n w ds
+
+-- and one fewer without one that stands
+pub fewer-some : (o : Option ℕ) (n : ℕ) (w : Who) (ds : List (ℕ × Who)) → o ≡ Some n → stands_in ds n w ≡ true → length (without_some o w ds) + 1 ≤ length ds
+fewer-some o n w ds e h = rw e (fewer-without n w ds h)
+
+module _ {P : Type 0} (seats seats' : List (Seat P)) (calls calls' : List TransactionCall) (ds : List (ℕ × Who)) where
+  -- the deadlines stay where those of the processes and of the calls do
+  pub deadlines-stay : ((v : Who) → deadline_for seats' calls' v ≡ deadline_for seats calls v) → AreDeadlines seats calls ds → AreDeadlines seats' calls' ds
+  deadlines-stay same h n v = h n v ∙ ap (is_moment n) (sym (same v))
+
+  -- one of them, where the others stay
+  all-but : (w : Who) → deadline_for seats' calls' w ≡ deadline_for seats calls w → ((v : Who) → v ≢ w → deadline_for seats' calls' v ≡ deadline_for seats calls v) → (v : Who) → deadline_for seats' calls' v ≡ deadline_for seats calls v
+  all-but w own others v =
+      elim (who-cases v w) [
+        | inl e ↦ ap (deadline_for seats' calls') e ∙ own ∙ ap (deadline_for seats calls) (sym e)
+        | inr ne ↦ others v ne
+      ]
+
+  -- one that had no deadline may have one now
+  pub deadlines-more :
+      (w : Who) (o : Option ℕ)
+      → deadline_for seats calls w ≡ None
+      → deadline_for seats' calls' w ≡ o
+      → ((v : Who) → v ≢ w → deadline_for seats' calls' v ≡ deadline_for seats calls v)
+      → AreDeadlines seats calls ds
+      → AreDeadlines seats' calls' (with_some o w ds)
+  deadlines-more w None none has others h n v = deadlines-stay (all-but w (has ∙ sym none) others) h n v
+  deadlines-more w (Some d) none has others h n v =
+      stands-with d w ds n v
+      ∙ ap (λ t. (nat_eq n d && is_same_who v w) || t) (h n v)
+      ∙ elim (who-cases v w) [
+        | inl e ↦
+            ap (λ b. (nat_eq n d && b) || is_moment n (deadline_for seats calls v)) (ap (λ u. is_same_who u w) e ∙ who-itself w)
+            ∙ ap (λ o. (nat_eq n d && true) || is_moment n o) (ap (deadline_for seats calls) e ∙ none)
+            ∙ alone (nat_eq n d)
+            ∙ ap (is_moment n) (sym (ap (deadline_for seats' calls') e ∙ has))
+        | inr ne ↦
+            ap (λ b. (nat_eq n d && b) || is_moment n (deadline_for seats calls v)) (other-who v w ne)
+            ∙ away (nat_eq n d) (is_moment n (deadline_for seats calls v))
+            ∙ ap (is_moment n) (sym (others v ne))
+      ]
+    where
+      alone : (b : Bool) → ((b && true) || false) ≡ b
+      alone true = refl
+      alone false = refl
+
+      away : (b t : Bool) → ((b && false) || t) ≡ t
+      away true t = refl
+      away false t = refl
+
+  -- one that may have had a deadline has none any more
+  pub deadlines-fewer :
+      (w : Who) (o : Option ℕ)
+      → deadline_for seats calls w ≡ o
+      → deadline_for seats' calls' w ≡ None
+      → ((v : Who) → v ≢ w → deadline_for seats' calls' v ≡ deadline_for seats calls v)
+      → AreDeadlines seats calls ds
+      → AreDeadlines seats' calls' (without_some o w ds)
+  deadlines-fewer w None had none others h n v = deadlines-stay (all-but w (none ∙ sym had) others) h n v
+  deadlines-fewer w (Some d) had none others h n v =
+      stands-without d w ds n v
+      ∙ ap (λ t. not (nat_eq n d && is_same_who v w) && t) (h n v)
+      ∙ elim (who-cases v w) [
+        | inl e ↦
+            ap (λ b. not (nat_eq n d && b) && is_moment n (deadline_for seats calls v)) (ap (λ u. is_same_who u w) e ∙ who-itself w)
+            ∙ ap (λ o. not (nat_eq n d && true) && is_moment n o) (ap (deadline_for seats calls) e ∙ had)
+            ∙ never (nat_eq n d)
+            ∙ ap (is_moment n) (sym (ap (deadline_for seats' calls') e ∙ none))
+        | inr ne ↦
+            ap (λ b. not (nat_eq n d && b) && is_moment n (deadline_for seats calls v)) (other-who v w ne)
+            ∙ away (nat_eq n d) (is_moment n (deadline_for seats calls v))
+            ∙ ap (is_moment n) (sym (others v ne))
+      ]
+    where
+      never : (b : Bool) → (not (b && true) && b) ≡ false
+      never true = refl
+      never false = refl
+
+      away : (b t : Bool) → (not (b && false) && t) ≡ t
+      away true t = refl
+      away false t = refl
+
+-- the deadlines of processes and of calls, by halves
+pub same-for :
+    {P : Type 0} (seats seats' : List (Seat P)) (calls calls' : List TransactionCall)
+    → ((i : ℕ) → deadline_of (seat_at seats' i).standing ≡ deadline_of (seat_at seats i).standing)
+    → ((c : ℕ) → call_due calls' c ≡ call_due calls c)
+    → (v : Who)
+    → deadline_for seats' calls' v ≡ deadline_for seats calls v
+same-for seats seats' calls calls' f g (who.Process p) = f p.0
+same-for seats seats' calls calls' f g (who.Call c) = g c.0
+
+-- a call at the end has its deadline
+own-due : (calls : List TransactionCall) (call : TransactionCall) → call_numbered calls call.number.0 ≡ None → call_due (calls ++ call ∷ []) call.number.0 ≡ call_deadline call.waiting
+own-due [] call new = ap (λ b. option_map_or (λ (c : TransactionCall). call_deadline c.waiting) (cond b (Some call) None) None) (number-same call.number.0 call.number.0 refl)
+own-due (other ∷ calls) call new = by (nat_eq other.number.0 call.number.0) new (own-due calls call)
+  where
+    by :
+        (b : Bool)
+        → cond b (Some other) (call_numbered calls call.number.0) ≡ None
+        → (call_numbered calls call.number.0 ≡ None → call_due (calls ++ call ∷ []) call.number.0 ≡ call_deadline call.waiting)
+        → option_map_or (λ (c : TransactionCall). call_deadline c.waiting) (cond b (Some other) (call_numbered (calls ++ call ∷ []) call.number.0)) None ≡ call_deadline call.waiting
+    by true e rest = cc
+    by false e rest = rest e
+
+-- and the others have theirs
+push-other : (calls : List TransactionCall) (call : TransactionCall) (n : ℕ) → n ≢ call.number.0 → call_due (calls ++ call ∷ []) n ≡ call_due calls n
+push-other [] call n ne = ap (λ b. option_map_or (λ (c : TransactionCall). call_deadline c.waiting) (cond b (Some call) None) None) (number-other call.number.0 n (λ e. ne (sym e)))
+push-other (other ∷ calls) call n ne = by (nat_eq other.number.0 n) (push-other calls call n ne)
+  where
+    by :
+        (b : Bool)
+        → call_due (calls ++ call ∷ []) n ≡ call_due calls n
+        → option_map_or (λ (c : TransactionCall). call_deadline c.waiting) (cond b (Some other) (call_numbered (calls ++ call ∷ []) n)) None
+        ≡ option_map_or (λ (c : TransactionCall). call_deadline c.waiting) (cond b (Some other) (call_numbered calls n)) None
+    by true rest = refl
+    by false rest = rest
+
+-- a call that is gone has none
+gone-due : (calls : List TransactionCall) (n : ℕ) → call_due (filter (λ call. not (nat_eq call.number.0 n)) calls) n ≡ None
+gone-due [] n = refl
+gone-due (call ∷ calls) n = by (nat_eq call.number.0 n) refl (gone-due calls n)
+  where
+    rest : List TransactionCall
+    rest = filter (λ (other : TransactionCall). not (nat_eq other.number.0 n)) calls
+
+    by : (b : Bool) → nat_eq call.number.0 n ≡ b → call_due rest n ≡ None → call_due (cond (not b) (call ∷ rest) rest) n ≡ None
+    by true e none = none
+    by false e none = ap (λ b. option_map_or (λ (c : TransactionCall). call_deadline c.waiting) (cond b (Some call) (call_numbered rest n)) None) e ∙ none
+
+gone-other : (calls : List TransactionCall) (n k : ℕ) → k ≢ n → call_due (filter (λ call. not (nat_eq call.number.0 n)) calls) k ≡ call_due calls k
+gone-other [] n k ne = refl
+gone-other (call ∷ calls) n k ne = by (nat_eq call.number.0 n) refl (gone-other calls n k ne)
+  where
+    rest : List TransactionCall
+    rest = filter (λ (other : TransactionCall). not (nat_eq other.number.0 n)) calls
+
+    skip : (b : Bool) → b ≡ false → call_due calls k ≡ option_map_or (λ (c : TransactionCall). call_deadline c.waiting) (cond b (Some call) (call_numbered calls k)) None
+    skip true e = cc
+    skip false e = refl
+
+    both-found : (b : Bool) → call_due rest k ≡ call_due calls k → option_map_or (λ (c : TransactionCall). call_deadline c.waiting) (cond b (Some call) (call_numbered rest k)) None ≡ option_map_or (λ (c : TransactionCall). call_deadline c.waiting) (cond b (Some call) (call_numbered calls k)) None
+    both-found true same = refl
+    both-found false same = same
+
+    by : (b : Bool) → nat_eq call.number.0 n ≡ b → call_due rest k ≡ call_due calls k → call_due (cond (not b) (call ∷ rest) rest) k ≡ call_due (call ∷ calls) k
+    by true e same =
+        same ∙ skip (nat_eq call.number.0 k) (number-other call.number.0 k (λ h. ne (sym (sym (eqb-true call.number.0 n e) ∙ h))))
+    by false e same = both-found (nat_eq call.number.0 k) same
+
+module _ {P : Type 0} (seats : List (Seat P)) (calls : List TransactionCall) (ds : List (ℕ × Who)) where
+  -- a call is asked, maybe with a deadline
+  pub asked-timed :
+      (call : TransactionCall)
+      → call_numbered calls call.number.0 ≡ None
+      → AreDeadlines seats calls ds
+      → AreDeadlines seats (calls ++ call ∷ []) (with_some (call_deadline call.waiting) (who.Call call.number) ds)
+  asked-timed call new h =
+      deadlines-more seats seats calls (calls ++ call ∷ []) ds (who.Call call.number) (call_deadline call.waiting)
+      (ap (λ o. option_map_or (λ (c : TransactionCall). call_deadline c.waiting) o None) new) (own-due calls call new) others h
+    where
+      others : (v : Who) → v ≢ who.Call call.number → deadline_for seats (calls ++ call ∷ []) v ≡ deadline_for seats calls v
+      others (who.Process p) ne = refl
+      others (who.Call c) ne = push-other calls call c.0 (λ e. ne (ap (λ n. who.Call (record { 0 = n })) e))
+
+  -- a call is gone
+  pub taken-timed :
+      (number : CallId) (call : TransactionCall)
+      → call_numbered calls number.0 ≡ Some call
+      → AreDeadlines seats calls ds
+      → AreDeadlines seats (filter (λ other. not (nat_eq other.number.0 number.0)) calls) (without_some (call_deadline call.waiting) (who.Call number) ds)
+  taken-timed number call found h =
+      deadlines-fewer seats seats calls (filter (λ other. not (nat_eq other.number.0 number.0)) calls) ds (who.Call number) (call_deadline call.waiting)
+      (ap (λ o. option_map_or (λ (c : TransactionCall). call_deadline c.waiting) o None) found) (gone-due calls number.0) others h
+    where
+      others : (v : Who) → v ≢ who.Call number → deadline_for seats (filter (λ other. not (nat_eq other.number.0 number.0)) calls) v ≡ deadline_for seats calls v
+      others (who.Process p) ne = refl
+      others (who.Call c) ne = gone-other calls number.0 c.0 (λ e. ne (ap (λ n. who.Call (record { 0 = n })) e))
+
+module _ {P : Type 0} where
   -- the deadline of each, where one seat is changed
   pub set-deadline :
       (seats : List (Seat P)) (p i : ℕ) (seat : Seat P)
@@ -306,11 +442,11 @@ module _ {P : Type 0} where
       (seats : List (Seat P)) (calls : List TransactionCall) (ds : List (ℕ × Who)) (p : ℕ) (seat : Seat P)
       → deadline_of (seat_at seats p).standing ≡ None
       → deadline_of seat.standing ≡ None
-      → AllUntimed calls
       → AreDeadlines seats calls ds
       → AreDeadlines (set seats p seat) calls ds
-  changed-timed seats calls ds p seat was is u h =
-      deadlines-stay seats (set seats p seat) calls calls ds (λ i. set-deadline seats p i seat (is ∙ sym was)) u u h
+  changed-timed seats calls ds p seat was is h =
+      deadlines-stay seats (set seats p seat) calls calls ds
+      (same-for seats (set seats p seat) calls calls (λ i. set-deadline seats p i seat (is ∙ sym was)) (λ c. refl)) h
 
   own-deadline : (seats : List (Seat P)) (p : ℕ) (seat : Seat P) → p < length seats → deadline_of (seat_at (set seats p seat) p).standing ≡ deadline_of seat.standing
   own-deadline [] p seat lt = absurd (omega arith)
@@ -358,84 +494,78 @@ module _ {P : Type 0} where
   gone-deadline seats [] i = refl
   gone-deadline seats (call ∷ calls) i = gone-deadline (answered_seats seats call Gone) calls i ∙ answered-deadline seats call Gone i
 
-  -- a process that had no deadline has one now
-  pub deadlines-more :
-      (seats : List (Seat P)) (calls : List TransactionCall) (ds : List (ℕ × Who)) (p : Pid) (seat : Seat P) (deadline : ℕ)
+  seat-others : (seats : List (Seat P)) (calls : List TransactionCall) (p : Pid) (seat : Seat P) (v : Who) → v ≢ who.Process p → deadline_for (set seats p.0 seat) calls v ≡ deadline_for seats calls v
+  seat-others seats calls p seat (who.Process q) ne = other-deadline seats p.0 q.0 seat (λ e. ne (ap (λ n. who.Process (record { 0 = n })) e))
+  seat-others seats calls p seat (who.Call c) ne = refl
+
+  -- a process that had no deadline waits, maybe with one
+  pub waits-timed :
+      (seats : List (Seat P)) (calls : List TransactionCall) (ds : List (ℕ × Who)) (p : Pid) (seat : Seat P)
       → p.0 < length seats
       → deadline_of (seat_at seats p.0).standing ≡ None
-      → deadline_of seat.standing ≡ Some deadline
       → AreDeadlines seats calls ds
-      → AreDeadlines (set seats p.0 seat) calls (with_deadline (deadline, who.Process p) ds)
-  deadlines-more seats calls ds p seat deadline lt none has h n (who.Process q) =
-      stands-with deadline (who.Process p) ds n (who.Process q)
-      ∙ ap (λ t. (nat_eq n deadline && nat_eq q.0 p.0) || t) (h n (who.Process q))
-      ∙ elim (cases_eq q.0 p.0) [
-        | inl same ↦
-            ap (λ t. (nat_eq n deadline && t) || is_moment n (deadline_of (seat_at seats q.0).standing)) (number-same q.0 p.0 same)
-            ∙ ap (λ (t : Option ℕ). (nat_eq n deadline && true) || is_moment n t) (ap (λ j. deadline_of (seat_at seats j).standing) same ∙ none)
-            ∙ alone (nat_eq n deadline)
-            ∙ ap (is_moment n) (sym (ap (λ j. deadline_of (seat_at (set seats p.0 seat) j).standing) same ∙ own-deadline seats p.0 seat lt ∙ has))
-        | inr ne ↦
-            ap (λ t. (nat_eq n deadline && t) || is_moment n (deadline_of (seat_at seats q.0).standing)) (number-other q.0 p.0 ne)
-            ∙ away (nat_eq n deadline) (is_moment n (deadline_of (seat_at seats q.0).standing))
-            ∙ ap (is_moment n) (sym (other-deadline seats p.0 q.0 seat ne))
-      ]
-    where
-      alone : (b : Bool) → ((b && true) || false) ≡ b
-      alone true = refl
-      alone false = refl
+      → AreDeadlines (set seats p.0 seat) calls (with_some (deadline_of seat.standing) (who.Process p) ds)
+  waits-timed seats calls ds p seat lt none h =
+      deadlines-more seats (set seats p.0 seat) calls calls ds (who.Process p) (deadline_of seat.standing)
+      none (own-deadline seats p.0 seat lt) (seat-others seats calls p seat) h
 
-      away : (b t : Bool) → ((b && false) || t) ≡ t
-      away true t = refl
-      away false t = refl
-  deadlines-more seats calls ds p seat deadline lt none has h n (who.Call c) =
-      stands-with deadline (who.Process p) ds n (who.Call c) ∙ away (nat_eq n deadline) (stands_in ds n (who.Call c)) ∙ h n (who.Call c)
-    where
-      away : (b t : Bool) → ((b && false) || t) ≡ t
-      away true t = refl
-      away false t = refl
-
-  -- one that had a deadline has none any more
-  pub deadlines-fewer :
-      (seats : List (Seat P)) (calls : List TransactionCall) (ds : List (ℕ × Who)) (p : Pid) (seat : Seat P) (deadline : ℕ)
+  -- a process that waits goes on
+  pub goes-timed :
+      (seats : List (Seat P)) (calls : List TransactionCall) (ds : List (ℕ × Who)) (p : Pid) (seat : Seat P)
       → p.0 < length seats
-      → deadline_of (seat_at seats p.0).standing ≡ Some deadline
       → deadline_of seat.standing ≡ None
       → AreDeadlines seats calls ds
-      → AreDeadlines (set seats p.0 seat) calls (without_deadline (deadline, who.Process p) ds)
-  deadlines-fewer seats calls ds p seat deadline lt had none h n (who.Process q) =
-      stands-without deadline (who.Process p) ds n (who.Process q)
-      ∙ ap (λ t. not (nat_eq n deadline && nat_eq q.0 p.0) && t) (h n (who.Process q))
-      ∙ elim (cases_eq q.0 p.0) [
-        | inl same ↦
-            ap (λ t. not (nat_eq n deadline && t) && is_moment n (deadline_of (seat_at seats q.0).standing)) (number-same q.0 p.0 same)
-            ∙ ap (λ (t : Option ℕ). not (nat_eq n deadline && true) && is_moment n t) (ap (λ j. deadline_of (seat_at seats j).standing) same ∙ had)
-            ∙ never (nat_eq n deadline)
-            ∙ ap (is_moment n) (sym (ap (λ j. deadline_of (seat_at (set seats p.0 seat) j).standing) same ∙ own-deadline seats p.0 seat lt ∙ none))
-        | inr ne ↦
-            ap (λ t. not (nat_eq n deadline && t) && is_moment n (deadline_of (seat_at seats q.0).standing)) (number-other q.0 p.0 ne)
-            ∙ away (nat_eq n deadline) (is_moment n (deadline_of (seat_at seats q.0).standing))
-            ∙ ap (is_moment n) (sym (other-deadline seats p.0 q.0 seat ne))
-      ]
-    where
-      never : (b : Bool) → (not (b && true) && b) ≡ false
-      never true = refl
-      never false = refl
+      → AreDeadlines (set seats p.0 seat) calls (without_some (deadline_of (seat_at seats p.0).standing) (who.Process p) ds)
+  goes-timed seats calls ds p seat lt none h =
+      deadlines-fewer seats (set seats p.0 seat) calls calls ds (who.Process p) (deadline_of (seat_at seats p.0).standing)
+      refl (own-deadline seats p.0 seat lt ∙ none) (seat-others seats calls p seat) h
 
-      away : (b t : Bool) → (not (b && false) && t) ≡ t
-      away true t = refl
-      away false t = refl
-  deadlines-fewer seats calls ds p seat deadline lt had none h n (who.Call c) =
-      stands-without deadline (who.Process p) ds n (who.Call c) ∙ away (nat_eq n deadline) (stands_in ds n (who.Call c)) ∙ h n (who.Call c)
-    where
-      away : (b t : Bool) → (not (b && false) && t) ≡ t
-      away true t = refl
-      away false t = refl
-
-  -- the deadline of a process stands, where it has one
+  -- a deadline stands, where one has it
   pub stands-for :
-      (seats : List (Seat P)) (calls : List TransactionCall) (ds : List (ℕ × Who)) (p : Pid) (deadline : ℕ)
+      (seats : List (Seat P)) (calls : List TransactionCall) (ds : List (ℕ × Who)) (w : Who) (deadline : ℕ)
       → AreDeadlines seats calls ds
-      → deadline_of (seat_at seats p.0).standing ≡ Some deadline
-      → stands_in ds deadline (who.Process p) ≡ true
-  stands-for seats calls ds p deadline h e = h deadline (who.Process p) ∙ ap (is_moment deadline) e ∙ number-same deadline deadline refl
+      → deadline_for seats calls w ≡ Some deadline
+      → stands_in ds deadline w ≡ true
+  stands-for seats calls ds w deadline h e = h deadline w ∙ ap (is_moment deadline) e ∙ number-same deadline deadline refl
+
+  pub process-stands : (seats : List (Seat P)) (calls : List TransactionCall) (ds : List (ℕ × Who)) (p : Pid) → AreDeadlines seats calls ds → DeadlineStands seats ds p
+  process-stands seats calls ds p h n e = stands-for seats calls ds (who.Process p) n h e
+
+  -- where a deadline stands, one has it
+  pub has-standing :
+      (seats : List (Seat P)) (calls : List TransactionCall) (ds : List (ℕ × Who)) (w : Who) (deadline : ℕ)
+      → AreDeadlines seats calls ds
+      → stands_in ds deadline w ≡ true
+      → deadline_for seats calls w ≡ Some deadline
+  has-standing seats calls ds w deadline h e = of-moment (deadline_for seats calls w) (sym (h deadline w) ∙ e)
+    where
+      of-moment : (o : Option ℕ) → is_moment deadline o ≡ true → o ≡ Some deadline
+      of-moment None k = cc
+      of-moment (Some n) k = ap Some (sym (eqb-true deadline n k))
+
+  -- one more process, which has no deadline
+  pub pushed-timed :
+      (seats : List (Seat P)) (calls : List TransactionCall) (ds : List (ℕ × Who)) (seat : Seat P)
+      → deadline_of seat.standing ≡ None
+      → AreDeadlines seats calls ds
+      → AreDeadlines (seats ++ seat ∷ []) calls ds
+  pushed-timed seats calls ds seat none h =
+      deadlines-stay seats (seats ++ seat ∷ []) calls calls ds
+      (same-for seats (seats ++ seat ∷ []) calls calls (λ i. push-deadline seats seat i none) (λ c. refl)) h
+
+  -- callers go on
+  pub answered-timed :
+      (seats : List (Seat P)) (calls : List TransactionCall) (ds : List (ℕ × Who)) (call : ServedCall) (grant : Grant)
+      → AreDeadlines seats calls ds
+      → AreDeadlines (answered_seats seats call grant) calls ds
+  answered-timed seats calls ds call grant h =
+      deadlines-stay seats (answered_seats seats call grant) calls calls ds
+      (same-for seats (answered_seats seats call grant) calls calls (answered-deadline seats call grant) (λ c. refl)) h
+
+  pub gone-timed :
+      (seats : List (Seat P)) (calls : List TransactionCall) (ds : List (ℕ × Who)) (gone : List ServedCall)
+      → AreDeadlines seats calls ds
+      → AreDeadlines (gone_seats seats gone) calls ds
+  gone-timed seats calls ds gone h =
+      deadlines-stay seats (gone_seats seats gone) calls calls ds
+      (same-for seats (gone_seats seats gone) calls calls (gone-deadline seats gone) (λ c. refl)) h

@@ -6,7 +6,6 @@ use Rattle.cc_base.specs.declared.alternatives.Alt.{Alt}
 use Rattle.cc_base.specs.declared.alternatives.Alt.TheVariants.{Accept, After, Now, Terminate}
 use Rattle.cc_base.specs.declared.request.Request.{Request}
 use Rattle.cc_base.specs.declared.request.Request.TheVariants.{Pause, Create, Call, TimedCall, Send, Select, Delay, Reply, Print, Get, Done, Fault}
-use Rattle.cc_kernel.specs.Performed.{AsksPerformed, IsPerformed}
 use Rattle.cc_kernel.specs.Untimed.{AsksNoDeadline, HasNoDeadline, IsNoDelay, NoDelays}
 
 accept-no-delay : (a : Alt) → IsAccept a → IsNoDelay a
@@ -37,21 +36,3 @@ supported-no-deadline (Fault kind) h = tt
 -- whoever asks what is supported asks nothing with a deadline
 pub asks-no-deadline : (m : Meaning) → AsksSupported m → AsksNoDeadline m
 asks-no-deadline m h kind args grants exists proper = supported-no-deadline (m.act kind args grants) (h kind args grants exists proper)
-
--- the kernel performs what has no deadline
-pub untimed-performed : (r : Request) → HasNoDeadline r → IsPerformed r
-untimed-performed Pause h = tt
-untimed-performed (Create kind args) h = tt
-untimed-performed (Call target trans args) h = tt
-untimed-performed (TimedCall target trans args wait) h = absurd h
-untimed-performed (Send target trans args) h = tt
-untimed-performed (Select alts) h = h
-untimed-performed (Delay wait) h = absurd h
-untimed-performed (Reply value) h = tt
-untimed-performed (Print bytes) h = tt
-untimed-performed Get h = tt
-untimed-performed Done h = tt
-untimed-performed (Fault kind) h = tt
-
-pub asks-performed : (m : Meaning) → AsksNoDeadline m → AsksPerformed m
-asks-performed m h kind args grants exists proper = untimed-performed (m.act kind args grants) (h kind args grants exists proper)

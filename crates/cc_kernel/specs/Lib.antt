@@ -22,7 +22,7 @@ pub mod Resting
 pub mod Settles
 -- requests without a deadline
 pub mod Untimed
--- requests that the kernel can perform so far
-pub mod Performed
 -- the deadlines that stand, as they are kept
 pub mod Timed
+-- when a process that waits until a moment goes on
+pub mod Due

@@ -1,4 +1,4 @@
--- Requests without a deadline: those that the kernel can perform so far.
+-- Requests without a deadline.
 use Rattle.std.specs.Prelude.{ℕ, ℤ, List, [], ◌∷◌, length}
 use Rattle.cc_base.specs.Grants.{HasKind, IsProper}
 use Rattle.cc_base.specs.Meaning.{Meaning}

@@ -1,6 +1,6 @@
 //! The deadlines that stand, with how many there are at most.
 ghost use Rattle.std.specs.Prelude.{◌≡◌, [], ◌≤◌, ◌<◌, All, IfNone, IfSome, MatchOption, OnErr, OnOk, true, length, ℕ};
-ghost use Rattle.cc_kernel.specs.Timed.{stands_in};
+ghost use Rattle.cc_kernel.specs.Timed.{stands_in, with_some, without_some};
 ghost use Rattle.cc_rules.specs.Effects.{deadline_after};
 ghost use Rattle.cc_timer.specs.Deadlines.{IsFirst, with_deadline, without_deadline};
 ghost use Rattle.cc_timer.specs.declared.who.Who.{Who};
@@ -84,6 +84,27 @@ impl Deadlines {
     {
         self.timers.remove(moment, who);
         self.count -= 1;
+    }
+
+    /// Adds the deadline, where there is one, in the room that was made before.
+    pub(crate) fn add_some(&mut self, moment: Option<u64>, who: Who)
+        requires { 0 < self.old.spare }
+        ensures { self.new.pairs ≡ with_some moment who self.old.pairs }
+    {
+        if let Some(moment) = moment {
+            self.add(moment, who);
+        }
+    }
+
+    /// Takes the deadline out, where there is one, which stands then. All others stay.
+    pub(crate) fn remove_some(&mut self, moment: Option<u64>, who: Who)
+        requires { IfSome moment (λ n. stands_in self.old.pairs n who ≡ true) }
+        ensures pairs { self.new.pairs ≡ without_some moment who self.old.pairs }
+        ensures spare { self.new.spare ≡ self.old.spare }
+    {
+        if let Some(moment) = moment {
+            self.remove(moment, who);
+        }
     }
 
     /// Who waits for the first deadline, where its moment has come; none exactly where no moment has.

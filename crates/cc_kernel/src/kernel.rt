@@ -1,5 +1,4 @@
 ghost use Rattle.std.specs.Prelude.{◌≡◌, ◌≢◌, ℕ, ◌≤◌, ◌++◌, ◌⊎◌, [], ◌∷◌, false, true, IfOk, IfNone, IfSome, OnErr, OnOk, nat_eq, nat_lt, set};
-ghost use Rattle.cc_kernel.specs.Performed.{IsPerformed};
 ghost use Rattle.cc_kernel.specs.Untimed.{AsksNoDeadline};
 ghost use Rattle.cc_kernel.specs.Contract.{AllOut, AllStay, AsksNow, IsOutWith, IsPreparedFor, IsReadyWith, Moment, MovesOn, Nothing, OthersStay, OutsRun, SameOuts, SomeRunning, StepsOn, is_out_in, least_of};
 ghost use Rattle.cc_kernel.specs.Timed.{resting_standing};
@@ -96,7 +95,6 @@ impl<B: Behave> Kernel<B> {
     /// it was.
     pub fn prepare(&mut self, next: Option<&Request>) -> Result<(), Memory>
         requires asks { IfSome next (λ r. AsksNow (B.means self.old.code) self.old.input self.old.journal self.old.outs r.now) }
-        requires performed { IfSome next (λ r. IsPerformed r.now) }
         ensures request { IfSome next.entry (λ r. OnOk result (IsPreparedFor self.new r.now)) }
         ensures time { IfNone next.entry (OnOk result (self.new.prepared ≡ Moment)) }
         ensures rest { self.new ≡ record self.old { prepared = self.new.prepared } }
@@ -116,7 +114,6 @@ impl<B: Behave> Kernel<B> {
         requires out { IsOutWith (B.means self.old.code) (B.at self.old.code) self.old.input self.old.journal self.old.outs pid.0 process }
         requires asks { request ≡ request_at (B.means self.old.code) (state_after (B.means self.old.code) self.old.input self.old.journal) pid }
         requires going { standing_of (B.means self.old.code) self.old.input self.old.journal self.old.turns ≡ Going }
-        requires performed { IsPerformed request }
         ensures code { self.new.code ≡ self.old.code }
         ensures input { self.new.input ≡ self.old.input }
         ensures turns { self.new.turns ≡ self.old.turns }

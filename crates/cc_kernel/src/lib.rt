@@ -24,13 +24,15 @@
 //! gone, so that again no process can take anything. Then a process waits at `terminate` exactly where that is one of its
 //! alternatives, and whether the collective end is due is told by the counts.
 //!
-//! A process that is at a `delay` has a deadline. The deadlines that stand are kept in the order in which they are due (`Deadlines`,
-//! on cc_timer), and each is that of a process that waits for it (`AreDeadlines` in `specs/Timed`): it is added where the process
-//! begins to wait and taken out where it goes on. Before a step none of them has come. An Ask adds one at most, which may be over as
-//! it begins, and a Time may let many come. Where the collective end is not due, whoever has waited long enough goes on, the least
-//! deadline first. Who goes on opens nothing and takes nothing, so that no call can be taken by that, and the end does not come while
-//! one is running. So an Ask comes with two events at most, and a Time with no more than there are deadlines. Timed calls and delay
-//! alternatives of a `select` are not performed yet (`specs/Performed`), so that no call is withdrawn.
+//! A process that is at a `delay` has a deadline, and so has one that is at a `select` with delay alternatives: the least of theirs
+//! (`specs/Due`). A pending call has one where its caller waits for the answer until a moment. The deadlines that stand are kept in
+//! the order in which they are due (`Deadlines`, on cc_timer), and each is that of a process or of a pending call that waits for it
+//! (`AreDeadlines` in `specs/Timed`): it is added where the process begins to wait or the call is asked, and taken out where the
+//! process goes on and where the call is accepted, dropped or withdrawn. Before a step none of them has come. An Ask adds one at most,
+//! which may be over as it begins, and a Time may let many come. Where the collective end is not due, whoever has waited long enough
+//! goes on, the least deadline first: a process by the first written of its alternatives that are due at it, and the caller of a call,
+//! which is withdrawn. Who goes on opens nothing and takes nothing, so that no call can be taken by that, and the end does not come
+//! while one is running. So an Ask comes with two events at most, and a Time with no more than there are deadlines.
 //!
 //! All memory of a step is taken before it (`prepare`), so that no step is ever half done: room for four events and one more for
 //! each deadline that stands, for one more pending call, one more served call, one more deadline and one more seat, the process that
@@ -47,6 +49,7 @@ mod asks;
 mod choice;
 mod counts;
 mod deadlines;
+mod due;
 mod faults;
 mod kernel;
 mod need;

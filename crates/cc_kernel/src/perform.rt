@@ -1,5 +1,4 @@
 ghost use Rattle.std.specs.Prelude.{◌≡◌, ◌≢◌, MatchOption, ◌+◌, ◌<◌, ◌≤◌, ◌++◌, ℕ, ℤ, List, All, false, true, length, map, pos, replicate, set};
-ghost use Rattle.cc_kernel.specs.Performed.{IsPerformed};
 ghost use Rattle.cc_kernel.specs.Contract.{Answering, Making, IsEnoughFor, SameOuts};
 ghost use Rattle.cc_kernel.specs.Invariant.{IsReadyFor, prepared_for};
 ghost use Rattle.cc_kernel.specs.Resting.{AllRest, RestBut, roused_by};
@@ -7,15 +6,17 @@ ghost use Rattle.cc_kernel.specs.Store.{IsLocated, IsState, contents};
 ghost use Rattle.cc_kernel.specs.Seats.{is_out, is_ready, seat_at};
 ghost use Rattle.cc_kernel.specs.declared.need.Need.TheVariants as variant;
 ghost use Rattle.cc_kernel.specs.Stacks.{AreKnown, AreWithin, served_by};
+ghost use Rattle.cc_kernel.specs.Timed.{AreDeadlines};
 ghost use Rattle.cc_rules.specs.Effects.{effect, replied};
 ghost use Rattle.cc_rules.specs.Runs.{bytes_of};
 ghost use Rattle.cc_rules.specs.State.{State, is_running};
 
 use crate::asks;
+use crate::deadlines::deadline_after;
 use crate::need::Need;
 use crate::store::Store;
 use cc_base::{Behave, Bytes, Cells, Grant, Pid, Request};
-use cc_rules::ProcessStanding;
+use cc_rules::{ProcessStanding, Waiting};
 use std::alloc::Global;
 
 // The process goes on, and the innermost call that it serves, where it serves one, is answered with as much of the value
@@ -65,10 +66,10 @@ fn change_store<B: Behave>(
     requires deadlines { 0 < store.old.deadlines.spare }
     requires few { store.old.drawn < 4294967295 }
     requires last { All (λ call. call.number.0 < store.old.drawn) store.old.pending.items }
-    requires performed { IsPerformed request }
     requires enough { IsEnoughFor (prepared_for need) request }
     requires ready { (events : ℕ) × IsReadyFor (B.means code.now) (B.at code.now) store.old events need }
     requires known { AreKnown (B.means code.now) (served_by store.old.served) }
+    requires timed { AreDeadlines store.old.seats.items store.old.pending.items store.old.deadlines.pairs }
     ensures state { (s : State) → IsState (B.at code.now) s (contents store.old) → IsLocated (B.at code.now) s pid.0 process → IsState (B.at code.now) (effect (B.means code.now) s pid request) (contents store.new) }
     ensures input { store.new.input ≡ store.old.input }
     ensures drawn { store.new.drawn ≤ store.old.drawn + 1 }
@@ -94,7 +95,20 @@ fn change_store<B: Behave>(
             target,
             trans,
             args,
-        } => asks::call(store, pid, process, target, trans, args),
+        } => {
+            let waiting = Waiting::Caller { pid };
+            asks::call(store, pid, process, target, trans, args, waiting)
+        }
+        Request::TimedCall {
+            target,
+            trans,
+            args,
+            wait,
+        } => {
+            let deadline = deadline_after(store.moment, wait);
+            let waiting = Waiting::Until { pid, deadline };
+            asks::call(store, pid, process, target, trans, args, waiting)
+        }
         Request::Send {
             target,
             trans,
@@ -111,7 +125,6 @@ fn change_store<B: Behave>(
         Request::Get => asks::get(store, pid, process),
         Request::Done => asks::leave(store, pid, ProcessStanding::Ended),
         Request::Fault { kind } => asks::leave(store, pid, ProcessStanding::Faulted { kind }),
-        _other => unreachable!(),
     }
 }
 
@@ -133,10 +146,10 @@ pub(crate) fn perform<B: Behave>(
     requires deadlines { 0 < store.old.deadlines.spare }
     requires few { store.old.drawn < 4294967295 }
     requires last { All (λ call. call.number.0 < store.old.drawn) store.old.pending.items }
-    requires performed { IsPerformed request }
     requires enough { IsEnoughFor (prepared_for need) request }
     requires ready { (events : ℕ) × IsReadyFor (B.means code.now) (B.at code.now) store.old events need }
     requires known { AreKnown (B.means code.now) (served_by store.old.served) }
+    requires timed { AreDeadlines store.old.seats.items store.old.pending.items store.old.deadlines.pairs }
     ensures state { (s : State) → IsState (B.at code.now) s (contents store.old) → IsLocated (B.at code.now) s pid.0 process → IsState (B.at code.now) (effect (B.means code.now) s pid request) (contents store.new) }
     ensures input { store.new.input ≡ store.old.input }
     ensures drawn { store.new.drawn ≤ store.old.drawn + 1 }

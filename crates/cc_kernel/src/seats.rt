@@ -1,4 +1,4 @@
-ghost use Rattle.std.specs.Prelude.{◌≡◌, ◌≢◌, [], ◌∷◌, ◌++◌, ◌+◌, ◌<◌, ◌≤◌, length, map, set, ℕ, true, false, OnOk, OnErr, MatchOption, not, if◌then◌else◌};
+ghost use Rattle.std.specs.Prelude.{◌≡◌, [], ◌∷◌, ◌++◌, ◌+◌, ◌<◌, ◌≤◌, length, map, set, ℕ, true, false, OnOk, OnErr, MatchOption, not, if◌then◌else◌};
 ghost use Rattle.std.specs.List.{enumerate_from, filter, list_all, list_any};
 ghost use Rattle.cc_rules.specs.Effects.{waits_for};
 ghost use Rattle.cc_rules.specs.State.{is_faulted, is_over, is_running};
@@ -7,9 +7,13 @@ ghost use Rattle.cc_base.specs.Limits.{most_processes};
 ghost use Rattle.std.specs.VecDeque.{deque_capacity};
 ghost use Rattle.cc_kernel.specs.Counted.{Agrees, IsWaiting, all_may_end, ended_seat, may_terminate};
 ghost use Rattle.cc_kernel.specs.declared.seat.Whereabouts.TheVariants.{Ready};
-ghost use Rattle.cc_rules.specs.declared.process.ProcessStanding.TheVariants.{AtDelay, Ended};
+ghost use Rattle.cc_kernel.specs.Due.{due_of};
+ghost use Rattle.cc_kernel.specs.Timed.{deadline_of};
+ghost use Rattle.cc_rules.specs.Events.{expiry_grant};
+ghost use Rattle.cc_rules.specs.declared.process.ProcessStanding.TheVariants.{Ended};
 
 use crate::counts::{Counts, may_terminate};
+use crate::due::{Due, due_of, expiry_grant};
 use crate::seat::{Seat, Whereabouts};
 use crate::served::ServedCall;
 use cc_base::{CallId, Grant, Memory, Pid};
@@ -240,13 +244,28 @@ impl<P: Drop> Seats<P> {
         }
     }
 
-    /// The deadline of the process, where it is at a `delay`.
-    pub(crate) fn delay(&self, at: usize) -> Option<u64>
-        ensures { MatchOption result ((deadline : ℕ) → (seat_at self.now.items at).standing ≢ AtDelay deadline) (λ deadline. (seat_at self.now.items at).standing ≡ AtDelay deadline) }
+    /// When the process expires, and by which number; none exactly where it waits for no moment.
+    pub(crate) fn due(&self, at: usize) -> Option<Due>
+        ensures { result ≡ due_of (seat_at self.now.items at).standing }
+    {
+        due_of(self.standing(at)?)
+    }
+
+    /// The deadline of the process; none exactly where it waits for no moment.
+    pub(crate) fn deadline(&self, at: usize) -> Option<u64>
+        ensures { result ≡ deadline_of (seat_at self.now.items at).standing }
+    {
+        let due = self.due(at)?;
+        Some(due.deadline)
+    }
+
+    /// What the process is granted as it expires by this number.
+    pub(crate) fn expiry_grant(&self, at: usize, alt: u32) -> Grant
+        ensures { result ≡ expiry_grant alt (seat_at self.now.items at).standing }
     {
         match self.standing(at) {
-            Some(ProcessStanding::AtDelay { deadline }) => Some(*deadline),
-            _ => None,
+            None => Grant::Chose { alt },
+            Some(standing) => expiry_grant(alt, standing),
         }
     }
 

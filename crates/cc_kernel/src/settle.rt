@@ -6,15 +6,18 @@ ghost use Rattle.cc_kernel.specs.Resting.{AllRest, RestBut, RestsAt};
 ghost use Rattle.cc_kernel.specs.Seats.{is_out, seat_at};
 ghost use Rattle.cc_kernel.specs.Stacks.{AreWithin, served_by};
 ghost use Rattle.cc_kernel.specs.Settles.{GoesOn, Settles, TakesOne};
-ghost use Rattle.cc_kernel.specs.Store.{IsState, accepted_contents, chose_contents, contents, ended_contents, expired_contents};
-ghost use Rattle.cc_kernel.specs.Timed.{stands_in};
+ghost use Rattle.cc_kernel.specs.Due.{due_of};
+ghost use Rattle.cc_kernel.specs.Store.{IsState, accepted_contents, contents, ended_contents, expired_contents, withdrawn_contents, woken_contents};
+ghost use Rattle.cc_kernel.specs.Timed.{AreDeadlines, DeadlineStands, call_due, stands_in};
+ghost use Rattle.cc_kernel.specs.declared.due.Due.{Due};
 ghost use Rattle.cc_rules.specs.Choice.{call_numbered};
 ghost use Rattle.cc_rules.specs.State.{State};
-ghost use Rattle.cc_rules.specs.declared.process.ProcessStanding.TheVariants.{AtDelay};
 ghost use Rattle.cc_rules.specs.declared.process.TransactionCall.{TransactionCall};
 ghost use Rattle.cc_timer.specs.declared.who.Who.TheVariants as who;
 
+use crate::asks::take_call;
 use crate::choice::{Taking, what_it_takes};
+use crate::deadlines::Deadlines;
 use crate::pending::Pending;
 use crate::served::served_call;
 use crate::store::Store;
@@ -23,42 +26,44 @@ use cc_rules::{Event, Journal};
 use cc_timer::Who;
 use std::alloc::Global;
 
+// The process, which waits, goes on with this grant, and waits for no deadline any more.
+fn wake<P: Drop>(store: &mut Store<P>, pid: Pid, grant: Grant)
+    requires within { pid.0 < length store.old.seats.items }
+    requires waits { IsWaiting (seat_at store.old.seats.items pid.0).standing }
+    requires stands { DeadlineStands store.old.seats.items store.old.deadlines.pairs pid }
+    ensures contents { contents store.new ≡ woken_contents (contents store.old) pid grant }
+    ensures served { store.new.served ≡ store.old.served }
+    ensures most { store.new.most ≡ store.old.most }
+{
+    let deadline = store.seats.deadline(pid.0 as usize);
+    store.deadlines.remove_some(deadline, Who::Process(pid));
+    store.seats.wake(pid.0 as usize, grant);
+}
+
 // The process takes the pending call of this number by its alternative.
 fn accept<B: Behave>(code: &B, store: &mut Store<B::Proc>, pid: Pid, alt: u32, number: CallId)
     requires call { (call : TransactionCall) × (call_numbered store.old.pending.items number.0 ≡ Some call) }
     requires within { pid.0 < length store.old.seats.items }
     requires waits { IsWaiting (seat_at store.old.seats.items pid.0).standing }
+    requires timed { AreDeadlines store.old.seats.items store.old.pending.items store.old.deadlines.pairs }
     requires room { 0 < store.old.served.spare }
     requires known { All (λ call. call.trans < length (B.means code.now).shapes) store.old.pending.items }
-    ensures contents { (call : TransactionCall) → call_numbered store.old.pending.items number.0 ≡ Some call → contents store.new ≡ accepted_contents (contents store.old) pid.0 alt call }
+    ensures contents { (call : TransactionCall) → call_numbered store.old.pending.items number.0 ≡ Some call → contents store.new ≡ accepted_contents (contents store.old) pid alt call }
     ensures input { store.new.input ≡ store.old.input }
     ensures drawn { store.new.drawn ≡ store.old.drawn }
-    ensures deadlines { store.new.deadlines ≡ store.old.deadlines }
     ensures cells { AreWithin (B.means code.now) store.old.most (served_by store.old.served) → AreWithin (B.means code.now) store.new.most (served_by store.new.served) }
 {
-    let Some(call) = store.pending.take(number) else {
-        unreachable!()
-    };
+    let call = take_call(&mut store.pending, &mut store.deadlines, number);
     let served = served_call(&call);
     let args = call.args;
-    store.seats.wake(pid.0 as usize, Grant::Took { alt, args });
+    wake(store, pid, Grant::Took { alt, args });
     store.served.add(pid, served);
     store.most = store.most.max(code.shape(served.trans).value as usize);
 }
 
-// The process takes its immediate alternative.
-fn choose<P: Drop>(store: &mut Store<P>, pid: Pid, alt: u32)
-    requires within { pid.0 < length store.old.seats.items }
-    requires waits { IsWaiting (seat_at store.old.seats.items pid.0).standing }
-    ensures contents { contents store.new ≡ chose_contents (contents store.old) pid.0 alt }
-    ensures most { store.new.most ≡ store.old.most }
-    ensures deadlines { store.new.deadlines ≡ store.old.deadlines }
-{
-    store.seats.wake(pid.0 as usize, Grant::Chose { alt });
-}
-
 // The process takes a call, or an immediate alternative where no call is eligible; none exactly where it can take nothing.
 fn take_one<B: Behave>(code: &B, store: &mut Store<B::Proc>, pid: Pid) -> Option<Event>
+    requires state { (s : State) × IsState (B.at code.now) s (contents store.old) }
     requires room { 0 < store.old.served.spare }
     requires known { All (λ call. call.trans < length (B.means code.now).shapes) store.old.pending.items }
     ensures none { IfNone result (RestsAt (B.means code.now) (contents store.old) pid.0) }
@@ -68,7 +73,7 @@ fn take_one<B: Behave>(code: &B, store: &mut Store<B::Proc>, pid: Pid) -> Option
     ensures outs { map is_out store.new.seats.items ≡ map is_out store.old.seats.items }
     ensures input { store.new.input ≡ store.old.input }
     ensures drawn { store.new.drawn ≡ store.old.drawn }
-    ensures deadlines { store.new.deadlines ≡ store.old.deadlines }
+    ensures deadlines { length store.new.deadlines.pairs ≤ length store.old.deadlines.pairs }
     ensures cells { AreWithin (B.means code.now) store.old.most (served_by store.old.served) → AreWithin (B.means code.now) store.new.most (served_by store.new.served) }
 {
     match what_it_takes(code, &store.seats, &store.pending, pid) {
@@ -82,7 +87,7 @@ fn take_one<B: Behave>(code: &B, store: &mut Store<B::Proc>, pid: Pid) -> Option
             })
         }
         Some(Taking::AtOnce { alt }) => {
-            choose(store, pid, alt);
+            wake(store, pid, Grant::Chose { alt });
             Some(Event::Instant { pid, alt })
         }
     }
@@ -95,6 +100,7 @@ fn take_roused<B: Behave>(
     journal: &mut Journal,
     roused: Option<Pid>,
 )
+    requires state { (s : State) × IsState (B.at code.now) s (contents store.old) }
     requires events { 0 < journal.old.spare }
     requires room { 0 < store.old.served.spare }
     requires known { All (λ call. call.trans < length (B.means code.now).shapes) store.old.pending.items }
@@ -105,7 +111,7 @@ fn take_roused<B: Behave>(
     ensures outs { map is_out store.new.seats.items ≡ map is_out store.old.seats.items }
     ensures input { store.new.input ≡ store.old.input }
     ensures drawn { store.new.drawn ≡ store.old.drawn }
-    ensures deadlines { store.new.deadlines ≡ store.old.deadlines }
+    ensures deadlines { length store.new.deadlines.pairs ≤ length store.old.deadlines.pairs }
     ensures cells { AreWithin (B.means code.now) store.old.most (served_by store.old.served) → AreWithin (B.means code.now) store.new.most (served_by store.new.served) }
 {
     let Some(pid) = roused else {
@@ -126,31 +132,47 @@ fn end_all<B: Behave>(code: &B, alloc: Global, store: &mut Store<B::Proc>)
     store.served.drop_terminating(&store.seats);
     store.seats.end_terminating();
     store.pending = Pending::new(alloc);
+    store.deadlines = Deadlines::new(alloc);
 }
 
-// The process has waited until the deadline of its `delay`, and goes on.
-fn expire<P: Drop>(store: &mut Store<P>, pid: Pid)
-    requires delays { (deadline : ℕ) × ((seat_at store.old.seats.items pid.0).standing ≡ AtDelay deadline) }
-    requires stands { (deadline : ℕ) → (seat_at store.old.seats.items pid.0).standing ≡ AtDelay deadline → stands_in store.old.deadlines.pairs deadline (who.Process pid) ≡ true }
+// The process has waited until its deadline, and goes on. Gives the number by which it expires.
+fn expire<P: Drop>(store: &mut Store<P>, pid: Pid) -> u32
+    requires due { (due : Due) × (due_of (seat_at store.old.seats.items pid.0).standing ≡ Some due) }
     requires within { pid.0 < length store.old.seats.items }
     requires waits { IsWaiting (seat_at store.old.seats.items pid.0).standing }
-    ensures contents { (deadline : ℕ) → (seat_at store.old.seats.items pid.0).standing ≡ AtDelay deadline → contents store.new ≡ expired_contents (contents store.old) pid deadline }
+    requires stands { DeadlineStands store.old.seats.items store.old.deadlines.pairs pid }
+    ensures number { (due : Due) → due_of (seat_at store.old.seats.items pid.0).standing ≡ Some due → result ≡ due.alt }
+    ensures contents { contents store.new ≡ expired_contents (contents store.old) pid result }
     ensures most { store.new.most ≡ store.old.most }
 {
-    let Some(deadline) = store.seats.delay(pid.0 as usize) else {
+    let Some(due) = store.seats.due(pid.0 as usize) else {
         unreachable!()
     };
-    store.deadlines.remove(deadline, Who::Process(pid));
-    store.seats.wake(pid.0 as usize, Grant::Go);
+    let grant = store.seats.expiry_grant(pid.0 as usize, due.alt);
+    wake(store, pid, grant);
+    due.alt
+}
+
+// The pending call of this number is withdrawn, and its caller, where one waits, goes on with Late.
+fn withdraw<P: Drop>(store: &mut Store<P>, number: CallId)
+    requires call { (call : TransactionCall) × (call_numbered store.old.pending.items number.0 ≡ Some call) }
+    requires stands { (moment : ℕ) → call_due store.old.pending.items number.0 ≡ Some moment → stands_in store.old.deadlines.pairs moment (who.Call number) ≡ true }
+    ensures contents { (call : TransactionCall) → call_numbered store.old.pending.items number.0 ≡ Some call → contents store.new ≡ withdrawn_contents (contents store.old) call }
+    ensures most { store.new.most ≡ store.old.most }
+{
+    let late = take_call(&mut store.pending, &mut store.deadlines, number);
+    store.seats.answer(served_call(&late), Grant::Late);
 }
 
 // Whoever has the first deadline goes on, where its moment has come; none exactly where no moment has.
 fn expire_one<B: Behave>(code: &B, store: &mut Store<B::Proc>) -> Option<Event>
     requires state { (s : State) × IsState (B.at code.now) s (contents store.old) }
+    requires rest { AllRest (B.means code.now) (contents store.old) }
+    requires stays { all_may_end store.old.seats.items ≡ false }
     ensures none { IfNone result (All (λ d. store.old.moment < d.0) store.old.deadlines.pairs) }
     ensures same { IfNone result (store.new ≡ store.old) }
     ensures takes { IfSome result (λ e. (s : State) → IsState (B.at code.now) s (contents store.old) → TakesOne (B.means code.now) (B.at code.now) s e (contents store.new)) }
-    ensures rest { AllRest (B.means code.now) (contents store.old) → AllRest (B.means code.now) (contents store.new) }
+    ensures rest { AllRest (B.means code.now) (contents store.new) }
     ensures fewer { IfSome result (λ e. length store.new.deadlines.pairs + 1 ≤ length store.old.deadlines.pairs) }
     ensures stays { IfSome result (λ e. all_may_end store.new.seats.items ≡ false) }
     ensures outs { map is_out store.new.seats.items ≡ map is_out store.old.seats.items }
@@ -160,10 +182,13 @@ fn expire_one<B: Behave>(code: &B, store: &mut Store<B::Proc>) -> Option<Event>
 {
     match store.deadlines.first_due(store.moment) {
         None => None,
-        Some(Who::Call(_)) => unreachable!(),
+        Some(Who::Call(call)) => {
+            withdraw(store, call);
+            Some(Event::Withdraw { call })
+        }
         Some(Who::Process(pid)) => {
-            expire(store, pid);
-            Some(Event::Expire { pid, alt: 0 })
+            let alt = expire(store, pid);
+            Some(Event::Expire { pid, alt })
         }
     }
 }

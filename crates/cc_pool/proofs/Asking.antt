@@ -1,9 +1,6 @@
 -- A process that is ready asks next what its program says.
 use Rattle.std.proofs.Common.{◌≡◌, ℕ, ◌⊎◌, inl, inr, sym, ap, ◌∙◌, subst, true, false, ℤ, List, [], ◌∷◌, ◌++◌, Bool}
 use Rattle.cc_base.specs.Meaning.{Meaning}
-use Rattle.cc_kernel.proofs.Untimed.{asks-performed}
-use Rattle.cc_kernel.specs.Performed.{IsPerformed}
-use Rattle.cc_kernel.specs.Untimed.{AsksNoDeadline}
 use Rattle.cc_base.specs.declared.request.Grant.{Grant}
 use Rattle.cc_base.specs.declared.request.Request.{Request}
 use Rattle.cc_kernel.specs.Contract.{AllOut, IsReadyWith, SomeRunning}
@@ -45,6 +42,3 @@ module _ {P : Type 0} (m : Meaning) (located : P → ℕ → List ℤ → List G
 
   pub located-now : Went → located new q.kind q.args q.grants
   located-now went = subst (located new q.kind q.args) (sym ready.grants) went.1
-
-  pub performed-now : AsksNoDeadline m → Went → IsPerformed request
-  performed-now served went = subst IsPerformed (sym (asked-now went)) (asks-performed m served q.kind q.args q.grants ready.kind ready.proper)

@@ -1,5 +1,5 @@
 -- A run on its way, turn by turn.
-use Rattle.std.proofs.Common.{◌≡◌, ℕ, ◌≤◌, ◌<◌, ◌+◌, refl, sym, ap, ◌∙◌, subst, true, List, [], ◌∷◌, ◌++◌, Bool, Option, arith, cond, length, take}
+use Rattle.std.proofs.Common.{◌≡◌, ℕ, ◌≤◌, ◌<◌, ◌+◌, refl, sym, ap, ◌∙◌, subst, List, ◌∷◌, ◌++◌, Bool, Option, arith, cond, length, take}
 use Rattle.std.proofs.Math.Seq.{take-append-add}
 use Rattle.std.proofs.lemmas.List.{append-nil, length-append, take_all}
 use Rattle.std.proofs.lemmas.List.Sums.{sum_by-cons}
@@ -11,10 +11,10 @@ use Rattle.cc_pool.specs.Driven.{GoesOn, NoneOut, StopsAtTheSink, StopsForMemory
 use Rattle.cc_rules.proofs.GoOn.{printed-append, turns-append}
 use Rattle.cc_rules.proofs.QuietEvents.{settling-prints, settling-turns}
 use Rattle.cc_rules.specs.Events.{next, request_at, word_of}
-use Rattle.cc_rules.specs.Runs.{bytes_of, is_turn, printed, printed_from, state_after, turns}
-use Rattle.cc_rules.specs.State.{State, first_state}
+use Rattle.cc_rules.specs.Runs.{bytes_of, is_turn, printed, state_after, turns}
+use Rattle.cc_rules.specs.State.{first_state}
 use Rattle.cc_rules.specs.declared.event.Event.{Event}
-use Rattle.cc_rules.specs.declared.event.Event.TheVariants.{Ask, Accept, Instant, Expire, Withdraw, Time, End}
+use Rattle.cc_rules.specs.declared.event.Event.TheVariants.{Ask}
 use Rattle.cc_rules.specs.declared.event.Word.TheVariants as word
 use Rattle.cc_world.proofs.Grown.{grown_twice}
 use Rattle.cc_world.specs.Told.{GrewBy, GrewByPart, with_bytes}

@@ -1,5 +1,5 @@
 -- A run whose last turn is the Ask of a Print is not complete: who asked is running.
-use Rattle.std.proofs.Common.{◌≡◌, ℕ, ◌<◌, Bool, true, false, ◌&&◌, not, List, [], ◌∷◌, length, refl, sym, ap, ◌∙◌, subst, arith}
+use Rattle.std.proofs.Common.{◌≡◌, ℕ, ◌<◌, Bool, true, false, ◌&&◌, not, List, ◌∷◌, length, refl, sym, ap, ◌∙◌, subst, arith}
 use Rattle.std.specs.Prelude.{if◌then◌else◌}
 use Rattle.std.specs.List.{AllPass}
 use Rattle.std.proofs.lemmas.List.Folds.{list_all_at}
@@ -22,7 +22,7 @@ use Rattle.cc_rules.specs.Runs.{IsRun, IsRunFrom, after, bytes_of, is_settling, 
 use Rattle.cc_rules.specs.State.{State, first_state, is_over, is_running, nobody, process_at}
 use Rattle.cc_rules.specs.Stops.{StopsInPrint}
 use Rattle.cc_rules.specs.declared.event.Event.{Event}
-use Rattle.cc_rules.specs.declared.event.Event.TheVariants.{Ask, Accept, Instant, Expire, Withdraw, Time, End}
+use Rattle.cc_rules.specs.declared.event.Event.TheVariants.{Ask}
 use Rattle.cc_rules.specs.declared.event.Word.{Word}
 use Rattle.cc_rules.specs.declared.event.Word.TheVariants as word
 use Rattle.cc_rules.specs.declared.process.ProcessStanding.{ProcessStanding}

@@ -1,7 +1,6 @@
 ghost use Rattle.std.specs.Prelude.{◌≡◌, ◌≤◌, ◌⊎◌, ℕ, List, [], false, OnOk, OnErr, IfOk, IfErr, IsErrOf};
 ghost use Rattle.std.specs.List.{AllPass};
 ghost use Rattle.cc_base.specs.Meaning.{Meaning};
-ghost use Rattle.cc_kernel.specs.Performed.{IsPerformed};
 ghost use Rattle.cc_kernel.specs.Untimed.{AsksNoDeadline};
 ghost use Rattle.cc_kernel.specs.Contract.{IsOutWith, IsPreparedFor, SomeRunning};
 ghost use Rattle.cc_rules.specs.Standing.{standing_of};
@@ -38,7 +37,6 @@ fn take_asking<B: Behave>(
     requires going { standing_of (B.means kernel.old.code) kernel.old.input kernel.old.journal kernel.old.turns ≡ Going }
     requires running { SomeRunning (B.means kernel.old.code) kernel.old.input kernel.old.journal }
     requires inside { NoneOut kernel.old.outs }
-    requires no_deadline { AsksNoDeadline (B.means kernel.old.code) }
     ensures code { kernel.new.code ≡ kernel.old.code }
     ensures input { kernel.new.input ≡ kernel.old.input }
     ensures turns { kernel.new.turns ≡ kernel.old.turns }
@@ -47,7 +45,6 @@ fn take_asking<B: Behave>(
     ensures out { IfOk result (λ r. IsOutWith (B.means kernel.old.code) (B.at kernel.old.code) kernel.old.input kernel.old.journal kernel.new.outs r.0.0 r.1) }
     ensures others { IfOk result (λ r. OnlyOut kernel.new.outs r.0.0) }
     ensures prepared { IfOk result (λ r. IsPreparedFor kernel.new r.2) }
-    ensures performed { IfOk result (λ r. IsPerformed r.2) }
 {
     let Some((pid, mut process, grant)) = kernel.pick() else {
         unreachable!()
@@ -62,7 +59,6 @@ fn step<B: Behave, K: Sink>(alloc: Global, kernel: &mut Kernel<B>, out: &mut K) 
     requires going { standing_of (B.means kernel.old.code) kernel.old.input kernel.old.journal kernel.old.turns ≡ Going }
     requires running { SomeRunning (B.means kernel.old.code) kernel.old.input kernel.old.journal }
     requires inside { NoneOut kernel.old.outs }
-    requires no_deadline { AsksNoDeadline (B.means kernel.old.code) }
     ensures code { kernel.new.code ≡ kernel.old.code }
     ensures input { kernel.new.input ≡ kernel.old.input }
     ensures turns { kernel.new.turns ≡ kernel.old.turns }

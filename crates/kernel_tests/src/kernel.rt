@@ -1,7 +1,5 @@
 //! Runs of programs that follow a table, on the kernel and on a pool of one worker. The process that has been ready for longest goes
 //! on first.
-ghost use Rattle.std.specs.Prelude.{◌≡◌};
-ghost use Rattle.cc_kernel.specs.Performed.{AsksPerformed};
 
 use crate::tables::{Script, Step};
 use cc_base::{Behave, Bytes, CallId, Cells, FaultKind, Grant, Memory, Pid};
@@ -40,10 +38,11 @@ fn see_all(seen: &mut Seen, cells: &Cells) -> Result<(), Memory> {
 }
 
 /// A process that is ready goes on with its grant, and what it asks is done. False where none is ready.
-fn go_on<B: Behave>(kernel: &mut Kernel<B>, alloc: Global, seen: &mut Seen) -> Result<bool, Memory>
-    requires performed { AsksPerformed (B.means kernel.old.code) }
-    ensures code { kernel.new.code ≡ kernel.old.code }
-{
+fn go_on<B: Behave>(
+    kernel: &mut Kernel<B>,
+    alloc: Global,
+    seen: &mut Seen,
+) -> Result<bool, Memory> {
     let Some((pid, mut process, grant)) = kernel.pick() else {
         return Ok(false);
     };
@@ -61,10 +60,7 @@ pub(crate) fn go_on_for<B: Behave>(
     alloc: Global,
     seen: &mut Seen,
     slices: u32,
-) -> Result<(), Memory>
-    requires performed { AsksPerformed (B.means kernel.old.code) }
-    ensures code { kernel.new.code ≡ kernel.old.code }
-{
+) -> Result<(), Memory> {
     for _ in 0..slices {
         if !go_on(kernel, alloc, seen)? {
             return Ok(());

@@ -13,8 +13,12 @@ mod lists;
 mod ring;
 #[cfg(test)]
 mod rows;
-#[cfg(test)]
 mod tables;
+#[cfg(test)]
+mod timed;
+mod waiting;
 mod worked;
 
 pub use ring::{Member, Phase, Ring, Stage, run_ring};
+pub use tables::{Script, Step};
+pub use waiting::run_waiting;

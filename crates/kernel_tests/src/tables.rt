@@ -100,7 +100,7 @@ impl Behave for Script {
     }
 }
 
-fn one_cell(alloc: Global, cell: i64) -> Result<Cells, Memory>
+pub(crate) fn one_cell(alloc: Global, cell: i64) -> Result<Cells, Memory>
     ensures { IfOk result (λ cells. cells ≡ cell ∷ []) }
 {
     let mut cells = Cells::new(alloc);
@@ -108,7 +108,7 @@ fn one_cell(alloc: Global, cell: i64) -> Result<Cells, Memory>
     Ok(cells)
 }
 
-fn accept(alloc: Global, trans: u32) -> Alt
+pub(crate) fn accept(alloc: Global, trans: u32) -> Alt
     ensures { result ≡ accept_of trans }
 {
     Alt::Accept {
@@ -119,7 +119,7 @@ fn accept(alloc: Global, trans: u32) -> Alt
 }
 
 // A select of two alternatives.
-fn two(alloc: Global, first: Alt, second: Alt) -> Result<Alts, Memory>
+pub(crate) fn two(alloc: Global, first: Alt, second: Alt) -> Result<Alts, Memory>
     ensures { IfOk result (λ alts. alts ≡ (0, first) ∷ (1, second) ∷ []) }
 {
     let mut alts = Alts::new(alloc);

@@ -1,22 +1,58 @@
--- Programs that follow a table and may wait are well formed, and ask what can be performed.
-use Rattle.std.proofs.Common.{◌≡◌, ℕ, ◌-◌, ◌≤◌, ℤ, Bool, List, length, refl, Option, Some, None}
-use Rattle.std.specs.Prelude.{slice_get}
-use Rattle.cc_base.specs.Requests.{HasSites, IsRequestOf, NamesSites, WellFormed}
-use Rattle.cc_kernel.specs.Performed.{AsksPerformed, IsPerformed}
+-- Programs that follow a table and may wait are well formed.
+use Rattle.std.proofs.Common.{◌≡◌, ℕ, zero, suc, ◌-◌, ◌<◌, ◌≤◌, ℤ, Bool, true, false, List, [], ◌∷◌, length, refl, Option, Some, None, arith}
+use Rattle.std.specs.Prelude.{All, pos, slice_get}
+use Rattle.std.proofs.lemmas.List.Elements.{All-cons}
+use Rattle.std.proofs.lemmas.List.Kept.{AllPairs-cons}
+use Rattle.cc_base.specs.Alternatives.{NumbersRise}
+use Rattle.cc_base.specs.Requests.{HasSites, IsAlternativeOf, IsAtSite, IsRequestOf, NamesSites, WellFormed}
+use Rattle.cc_base.specs.declared.alternatives.Alt.{Alt}
+use Rattle.cc_base.specs.declared.alternatives.Alt.TheVariants.{After, Terminate}
+use Rattle.cc_base.specs.declared.request.Request.TheVariants.{Select}
 use Rattle.cc_rules.specs.declared.event.Word.{Word}
 use Rattle.cc_rules.specs.declared.event.Word.TheVariants as word
-use Rattle.kernel_tests.specs.Delays.{asked_or_waited, waiting, waiting_request_of}
-use Rattle.kernel_tests.specs.Tables.{Step, steps_of}
-use Rattle.kernel_tests.specs.lemmas.Tables.{is-request, names-sites, performed, scripted_has_sites}
+use Rattle.kernel_tests.specs.Delays.{asked_or_waited, timed_alternatives_of, waiting, waiting_request_of}
+use Rattle.kernel_tests.specs.Tables.{Step, accept_of, scripted, steps_of, trans_of}
+use Rattle.kernel_tests.specs.lemmas.Tables.{accept-at, accept-there, at-sites, is-request, is-select, scripted_has_sites, some-there, two-of, two-rise}
 
 module _ (main first second : List Step) where
+  three-rise : (a b c : ℕ × Alt) → a.0 < b.0 → b.0 < c.0 → NumbersRise (a ∷ b ∷ c ∷ [])
+  three-rise a b c lt lt' =
+      AllPairs-cons (λ (d e : ℕ × Alt). d.0 < e.0) a (b ∷ c ∷ [])
+      (two-of main first second (λ (d : ℕ × Alt). a.0 < d.0) b c lt (omega (arith, lt, lt')))
+      (two-rise main first second b c lt')
+
+  three-of : (F : ℕ × Alt → Type 0) (a b c : ℕ × Alt) → F a → F b → F c → All F (a ∷ b ∷ c ∷ [])
+  three-of F a b c h k l = All-cons F a (b ∷ c ∷ []) h (two-of main first second F b c k l)
+
+  abbrev Exists : ℕ × Alt → Type 0
+  Exists a = IsAlternativeOf (scripted main first second) a.1
+
+  is-timed_select : (number : ℕ) (b : Bool) (cell : ℤ) → IsRequestOf (waiting main first second) (Select (timed_alternatives_of number b cell))
+  is-timed_select zero b cell = is-select main first second 0 b
+  is-timed_select (suc zero) b cell =
+      (some-there main first second _ _, two-rise main first second _ (1, After cell) (omega arith), two-of main first second Exists (0, accept_of (trans_of b)) (1, After cell) (accept-there main first second b) tt)
+  is-timed_select (suc (suc zero)) b cell =
+      (some-there main first second _ _, three-rise _ (1, After cell) (2, Terminate) (omega arith) (omega arith), three-of Exists (0, accept_of (trans_of b)) (1, After cell) (2, Terminate) (accept-there main first second b) tt tt)
+  is-timed_select (suc (suc (suc number))) b cell =
+      (some-there main first second _ _, three-rise (0, After (pos 7)) (1, After cell) (2, After cell) (omega arith) (omega arith), three-of Exists (0, After (pos 7)) (1, After cell) (2, After cell) tt tt tt)
+
+  abbrev Named : ℕ × Alt → Type 0
+  Named a = IsAtSite 2 a.1
+
+  timed-sites : (number : ℕ) (b : Bool) (cell : ℤ) → All (λ (a : ℕ × Alt). IsAtSite 2 a.1) (timed_alternatives_of number b cell)
+  timed-sites zero b cell = at-sites main first second 0 b
+  timed-sites (suc zero) b cell = two-of main first second Named (0, accept_of (trans_of b)) (1, After cell) (accept-at main first second b) tt
+  timed-sites (suc (suc zero)) b cell = three-of Named (0, accept_of (trans_of b)) (1, After cell) (2, Terminate) (accept-at main first second b) tt tt
+  timed-sites (suc (suc (suc number))) b cell = three-of Named (0, After (pos 7)) (1, After cell) (2, After cell) tt tt tt
+
   is-waiting_request : (w : Word) (number : ℕ) (b : Bool) (cell : ℤ) → IsRequestOf (waiting main first second) (waiting_request_of w number b cell)
   is-waiting_request word.Pause number b cell = is-request main first second word.Pause number b cell
   is-waiting_request word.Create number b cell = is-request main first second word.Create number b cell
   is-waiting_request word.Call number b cell = is-request main first second word.Call number b cell
-  is-waiting_request word.TimedCall number b cell = is-request main first second word.TimedCall number b cell
+  is-waiting_request word.TimedCall number true cell = refl
+  is-waiting_request word.TimedCall number false cell = refl
   is-waiting_request word.Send number b cell = is-request main first second word.Send number b cell
-  is-waiting_request word.Select number b cell = is-request main first second word.Select number b cell
+  is-waiting_request word.Select number b cell = is-timed_select number b cell
   is-waiting_request word.Delay number b cell = tt
   is-waiting_request word.Reply number b cell = is-request main first second word.Reply number b cell
   is-waiting_request word.Print number b cell = is-request main first second word.Print number b cell
@@ -38,7 +74,7 @@ module _ (main first second : List Step) where
   names-waiting word.Call number b cell = tt
   names-waiting word.TimedCall number b cell = tt
   names-waiting word.Send number b cell = tt
-  names-waiting word.Select number b cell = names-sites main first second word.Select number b cell
+  names-waiting word.Select number b cell = timed-sites number b cell
   names-waiting word.Delay number b cell = tt
   names-waiting word.Reply number b cell = tt
   names-waiting word.Print number b cell = tt
@@ -56,25 +92,3 @@ module _ (main first second : List Step) where
       each : (step : Option Step) → NamesSites 2 (asked_or_waited step)
       each None = tt
       each (Some step) = names-waiting step.0 step.1 step.2 step.3
-
-  waiting-performed : (w : Word) (number : ℕ) (b : Bool) (cell : ℤ) → IsPerformed (waiting_request_of w number b cell)
-  waiting-performed word.Pause number b cell = tt
-  waiting-performed word.Create number b cell = tt
-  waiting-performed word.Call number b cell = tt
-  waiting-performed word.TimedCall number b cell = tt
-  waiting-performed word.Send number b cell = tt
-  waiting-performed word.Select number b cell = performed main first second word.Select number b cell
-  waiting-performed word.Delay number b cell = tt
-  waiting-performed word.Reply number b cell = tt
-  waiting-performed word.Print number b cell = tt
-  waiting-performed word.Get number b cell = tt
-  waiting-performed word.Done number b cell = tt
-  waiting-performed word.Fault number b cell = tt
-
-  -- what it asks can be performed
-  pub waiting_performed : AsksPerformed (waiting main first second)
-  waiting_performed kind args grants exists proper = each (slice_get (steps_of main first second kind) (length grants - 1))
-    where
-      each : (step : Option Step) → IsPerformed (asked_or_waited step)
-      each None = tt
-      each (Some step) = waiting-performed step.0 step.1 step.2 step.3

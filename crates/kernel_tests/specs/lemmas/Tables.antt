@@ -10,44 +10,43 @@ use Rattle.cc_base.specs.Requests.{HasSites, IsAlternativeOf, IsAtSite, IsReques
 use Rattle.cc_base.specs.declared.alternatives.Alt.{Alt}
 use Rattle.cc_base.specs.declared.alternatives.Alt.TheVariants.{Now, Terminate}
 use Rattle.cc_base.specs.declared.request.Request.TheVariants.{Select}
-use Rattle.cc_kernel.specs.Performed.{AsksPerformed, IsPerformed}
 use Rattle.cc_kernel.specs.Untimed.{AsksNoDeadline, HasNoDeadline, NoDelays}
 use Rattle.kernel_tests.specs.Tables.{Step, accept_of, alternatives_of, asked, rank_at, request_of, scripted, steps_of, trans_of}
 use Rattle.cc_rules.specs.declared.event.Word.{Word}
 use Rattle.cc_rules.specs.declared.event.Word.TheVariants as word
 
 module _ (main first second : List Step) where
-  one-rises : (a : ℕ × Alt) → NumbersRise (a ∷ [])
+  pub one-rises : (a : ℕ × Alt) → NumbersRise (a ∷ [])
   one-rises a =
       AllPairs-cons (λ (b c : ℕ × Alt). b.0 < c.0) a [] (All-nil (λ (b : ℕ × Alt). a.0 < b.0)) (λ i j d lt within. absurd (not-suc-le-zero within))
 
-  two-rise : (a b : ℕ × Alt) → a.0 < b.0 → NumbersRise (a ∷ b ∷ [])
+  pub two-rise : (a b : ℕ × Alt) → a.0 < b.0 → NumbersRise (a ∷ b ∷ [])
   two-rise a b lt =
       AllPairs-cons (λ (c d : ℕ × Alt). c.0 < d.0) a (b ∷ [])
       (All-cons (λ (c : ℕ × Alt). a.0 < c.0) b [] lt (All-nil (λ (c : ℕ × Alt). a.0 < c.0)))
       (one-rises b)
 
-  some-there : (a : ℕ × Alt) (alts : List (ℕ × Alt)) → a ∷ alts ≢ []
+  pub some-there : (a : ℕ × Alt) (alts : List (ℕ × Alt)) → a ∷ alts ≢ []
   some-there a alts e = subst some e tt
     where
       some : List (ℕ × Alt) → Type 0
       some [] = ⊥
       some (b ∷ more) = Unit {0}
 
-  one-of : (F : ℕ × Alt → Type 0) (a : ℕ × Alt) → F a → All F (a ∷ [])
+  pub one-of : (F : ℕ × Alt → Type 0) (a : ℕ × Alt) → F a → All F (a ∷ [])
   one-of F a h = All-cons F a [] h (All-nil F)
 
-  two-of : (F : ℕ × Alt → Type 0) (a b : ℕ × Alt) → F a → F b → All F (a ∷ b ∷ [])
+  pub two-of : (F : ℕ × Alt → Type 0) (a b : ℕ × Alt) → F a → F b → All F (a ∷ b ∷ [])
   two-of F a b h k = All-cons F a (b ∷ []) h (one-of F b k)
 
   abbrev IsAlternative : ℕ × Alt → Type 0
   IsAlternative a = IsAlternativeOf (scripted main first second) a.1
 
-  accept-there : (b : Bool) → IsAlternativeOf (scripted main first second) (accept_of (trans_of b))
+  pub accept-there : (b : Bool) → IsAlternativeOf (scripted main first second) (accept_of (trans_of b))
   accept-there true = refl
   accept-there false = refl
 
-  is-select : (number : ℕ) (b : Bool) → IsRequestOf (scripted main first second) (Select (alternatives_of number b))
+  pub is-select : (number : ℕ) (b : Bool) → IsRequestOf (scripted main first second) (Select (alternatives_of number b))
   is-select zero b = (some-there _ [], one-rises _, one-of IsAlternative (0, accept_of (trans_of b)) (accept-there b))
   is-select (suc zero) b =
       (some-there _ _, two-rise _ (1, Now) (zero-lt-suc 0), two-of IsAlternative (0, accept_of (trans_of b)) (1, Now) (accept-there b) tt)
@@ -59,11 +58,11 @@ module _ (main first second : List Step) where
   abbrev AtSite : ℕ × Alt → Type 0
   AtSite a = IsAtSite 2 a.1
 
-  accept-at : (b : Bool) → IsAtSite 2 (accept_of (trans_of b))
+  pub accept-at : (b : Bool) → IsAtSite 2 (accept_of (trans_of b))
   accept-at true = leb-true 2 2 refl
   accept-at false = zero-lt-suc 1
 
-  at-sites : (number : ℕ) (b : Bool) → All (λ (a : ℕ × Alt). IsAtSite 2 a.1) (alternatives_of number b)
+  pub at-sites : (number : ℕ) (b : Bool) → All (λ (a : ℕ × Alt). IsAtSite 2 a.1) (alternatives_of number b)
   at-sites zero b = one-of AtSite (0, accept_of (trans_of b)) (accept-at b)
   at-sites (suc zero) b = two-of AtSite (0, accept_of (trans_of b)) (1, Now) (accept-at b) tt
   at-sites (suc (suc zero)) b = two-of AtSite (0, accept_of (trans_of b)) (1, Terminate) (accept-at b) tt
@@ -151,25 +150,3 @@ module _ (main first second : List Step) where
       each : (step : Option Step) → HasNoDeadline (asked step)
       each None = tt
       each (Some step) = no-deadline step.0 step.1 step.2 step.3
-
-  pub performed : (w : Word) (number : ℕ) (b : Bool) (cell : ℤ) → IsPerformed (request_of w number b cell)
-  performed word.Pause number b cell = tt
-  performed word.Create number b cell = tt
-  performed word.Call number b cell = tt
-  performed word.TimedCall number b cell = tt
-  performed word.Send number b cell = tt
-  performed word.Select number b cell = no-delays number b
-  performed word.Delay number b cell = tt
-  performed word.Reply number b cell = tt
-  performed word.Print number b cell = tt
-  performed word.Get number b cell = tt
-  performed word.Done number b cell = tt
-  performed word.Fault number b cell = tt
-
-  -- what it asks can be performed
-  pub scripted_performed : AsksPerformed (scripted main first second)
-  scripted_performed kind args grants exists proper = each (slice_get (steps_of main first second kind) (length grants - 1))
-    where
-      each : (step : Option Step) → IsPerformed (asked step)
-      each None = tt
-      each (Some step) = performed step.0 step.1 step.2 step.3

@@ -4,8 +4,8 @@ use Rattle.cc_kernel.specs.Seats.{gone_seats, served_call}
 use Rattle.cc_rules.specs.Effects.{is_for}
 use Rattle.cc_kernel.proofs.asks.drop_calls.Goals as goal
 
-pub drop_call-requires : goal.drop_call-requires
-drop_call-requires g c = (c.in-Some.ensures.first.0, c.in-Some.ensures.first.1)
+pub drop_call-requires-clause-call : goal.drop_call-requires-clause-call
+drop_call-requires-clause-call g c = (c.in-Some.ensures.first.0, c.in-Some.ensures.first.1)
 
 pub loop-number-preserved : goal.loop-number-preserved
 loop-number-preserved g c =
@@ -15,6 +15,8 @@ loop-number-preserved g c =
           rw (c.drop_call.ensures.seats first.0 first.1, c.drop_call.ensures.pending)
           (ap (λ calls. gone_seats c.loop-number.seats.items (map served_call calls)) (sym first.2) ∙ c.loop-number.invariant.seats);
       pending = rw c.drop_call.ensures.pending (c.in-Some.ensures.others ∙ c.loop-number.invariant.pending);
+      timed = c.drop_call.ensures.timed;
+      fewer = (let a = c.loop-number.invariant.fewer in let b = c.drop_call.ensures.fewer in omega (arith, a, b));
     }
 
 pub loop-number-smaller : goal.loop-number-smaller

@@ -1,9 +1,8 @@
-use Rattle.std.proofs.Common.{arith, ap, sym, subst, ◌∙◌}
+use Rattle.std.proofs.Common.{arith, ◌∙◌}
 use Rattle.cc_kernel.proofs.Ending.{settles-calm}
 use Rattle.cc_kernel.proofs.Resting.{due-rests, rest-calm}
-use Rattle.cc_kernel.proofs.Settling.{goes-none, goes-one}
+use Rattle.cc_kernel.proofs.Settling.{goes-one}
 use Rattle.cc_kernel.specs.Store.{contents}
-use Rattle.cc_rules.specs.Runs.{after}
 use Rattle.cc_kernel.proofs.settle.expire_due.Goals as goal
 
 pub loop-event-preserved : goal.loop-event-preserved
@@ -20,7 +19,7 @@ loop-event-preserved g c =
           rw c.add.ensures.items
           (goes-one m located s c.args.journal.now.items c.loop-event.journal.items (contents c.loop-event.store) (contents c.expire_one.new.store) c.in-Some.event
           (inv.goes_on s k) c.in-Some.ensures.takes);
-      rest = c.expire_one.ensures.rest inv.rest;
+      rest = c.expire_one.ensures.rest;
       stays = c.in-Some.ensures.stays;
       events = omega (arith, fewer, room, spare);
       outs = c.expire_one.ensures.outs ∙ inv.outs;

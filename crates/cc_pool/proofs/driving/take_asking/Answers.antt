@@ -1,4 +1,4 @@
-use Rattle.cc_pool.proofs.Asking.{asked-now, located-now, none-waits, performed-now}
+use Rattle.cc_pool.proofs.Asking.{asked-now, located-now, none-waits}
 use Rattle.cc_pool.proofs.driving.take_asking.Goals as goal
 
 pub unreachable-requires : goal.unreachable-requires
@@ -6,23 +6,19 @@ unreachable-requires g c =
     none-waits (g.B.Behave.means c.args.kernel.now.code) c.args.kernel.now.input c.args.kernel.now.journal c.args.kernel.now.outs
     _ c.requires.running c.requires.inside c.requires.going c.in_default.ensures.none
 
-pub prepare-requires-clause-asks : goal.prepare-requires-clause-asks
-prepare-requires-clause-asks g c =
-    let k = c.args.kernel.now in (
-      c.in-Some.pid,
-      c.in-Some.ensures.is_out,
-      rw c.in-Some.ensures.out
-          (asked-now (g.B.Behave.means k.code) (g.B.Behave.at k.code) k.input k.journal c.in-Some.pid.0 c.in-Some.process c.go.new.this c.in-Some.grant c.in_ok-request.request
-          c.in-Some.ensures.ready
-          (c.in_ok-request.ensures k.code _ _ c.in-Some.ensures.ready.front c.in-Some.ensures.ready.there c.in-Some.ensures.ready.is_next)),
-    )
-
-pub prepare-requires-clause-performed : goal.prepare-requires-clause-performed
-prepare-requires-clause-performed g c =
+pub prepare-requires : goal.prepare-requires
+prepare-requires g c =
     let k = c.args.kernel.now in
-    performed-now (g.B.Behave.means k.code) (g.B.Behave.at k.code) k.input k.journal c.in-Some.pid.0 c.in-Some.process c.go.new.this c.in-Some.grant c.in_ok-request.request
-    c.in-Some.ensures.ready c.requires.no_deadline
-    (c.in_ok-request.ensures k.code _ _ c.in-Some.ensures.ready.front c.in-Some.ensures.ready.there c.in-Some.ensures.ready.is_next)
+    record {
+      asks = (
+        c.in-Some.pid,
+        c.in-Some.ensures.is_out,
+        rw c.in-Some.ensures.out
+            (asked-now (g.B.Behave.means k.code) (g.B.Behave.at k.code) k.input k.journal c.in-Some.pid.0 c.in-Some.process c.go.new.this c.in-Some.grant c.in_ok-request.request
+            c.in-Some.ensures.ready
+            (c.in_ok-request.ensures k.code _ _ c.in-Some.ensures.ready.front c.in-Some.ensures.ready.there c.in-Some.ensures.ready.is_next)),
+      );
+    }
 
 pub returns-clause-out : goal.returns-clause-out
 returns-clause-out g c =
@@ -32,10 +28,3 @@ returns-clause-out g c =
           c.in-Some.ensures.ready
           (c.in_ok-request.ensures k.code _ _ c.in-Some.ensures.ready.front c.in-Some.ensures.ready.there c.in-Some.ensures.ready.is_next),
     )
-
-pub returns-clause-performed : goal.returns-clause-performed
-returns-clause-performed g c =
-    let k = c.args.kernel.now in
-    performed-now (g.B.Behave.means k.code) (g.B.Behave.at k.code) k.input k.journal c.in-Some.pid.0 c.in-Some.process c.go.new.this c.in-Some.grant c.in_ok-request.request
-    c.in-Some.ensures.ready c.requires.no_deadline
-    (c.in_ok-request.ensures k.code _ _ c.in-Some.ensures.ready.front c.in-Some.ensures.ready.there c.in-Some.ensures.ready.is_next)

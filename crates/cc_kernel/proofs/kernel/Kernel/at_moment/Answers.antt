@@ -1,9 +1,8 @@
-use Rattle.std.proofs.Common.{arith, ap, sym, subst, ◌∙◌, ◌<◌, List, ℕ, length}
+use Rattle.std.proofs.Common.{arith, sym, subst, ◌<◌, List, ℕ, length}
 use Rattle.std.specs.List.{All}
 use Rattle.cc_kernel.proofs.Keeping.{kept-time}
 use Rattle.cc_kernel.proofs.Known.{known-now}
 use Rattle.cc_kernel.proofs.Others.{all-stay, moves-on, outs-run, prints-none}
-use Rattle.cc_kernel.proofs.Readying.{ready-moment}
 use Rattle.cc_kernel.proofs.Settling.{state-time}
 use Rattle.cc_kernel.proofs.Stands.{below-allowed, still-left}
 use Rattle.cc_kernel.specs.Store.{contents}

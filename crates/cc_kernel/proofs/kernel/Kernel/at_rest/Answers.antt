@@ -1,4 +1,4 @@
-use Rattle.std.proofs.Common.{ap, sym, ◌∙◌, None, Option, Some, ℕ}
+use Rattle.std.proofs.Common.{ap, sym, ◌∙◌, None, Some}
 use Rattle.std.specs.Prelude.{nat_eq}
 use Rattle.cc_kernel.proofs.Least.{earliest-is}
 use Rattle.cc_kernel.proofs.Stands.{other-count, same-count}

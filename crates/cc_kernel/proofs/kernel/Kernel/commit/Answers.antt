@@ -23,6 +23,9 @@ pub perform-bytes-requires-clause-ready : goal.perform-bytes-requires-clause-rea
 perform-bytes-requires-clause-ready g c =
     (c.self.inside.journal.spare, rw (c.deref.ensures, c.replace-need.ensures.value) c.self.invariant.ready)
 
+pub perform-bytes-requires-clause-timed : goal.perform-bytes-requires-clause-timed
+perform-bytes-requires-clause-timed g c = c.self.invariant.state.timed
+
 pub perform-bytes-requires-clause-known : goal.perform-bytes-requires-clause-known
 perform-bytes-requires-clause-known g c =
     let k = c.self.inside in

@@ -1,4 +1,4 @@
-use Rattle.std.proofs.Common.{◌≡◌, ◌-◌, ◌<◌, ap, sym, ◌∙◌, arith, false, length, Some, None}
+use Rattle.std.proofs.Common.{◌-◌, ap, sym, ◌∙◌, false}
 use Rattle.std.specs.Prelude.{slice_get}
 use Rattle.std.specs.Option.{option_map_or}
 use Rattle.cc_kernel.proofs.Moments.{after-time-is}

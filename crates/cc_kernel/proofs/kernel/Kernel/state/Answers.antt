@@ -34,7 +34,7 @@ returns-then-not-some_running-clause-untimed g c untimed until is =
     let rests = rw (← c.self.view_is) at c.at_rest.ensures in
     never-idle _ _ until
     (none-stands m asks (state_after m k.store.input k.journal.items)
-    (Sound-run m k.store.input k.journal.items (g.met.B.Behave.well_formed k.code.value) c.self.invariant.runs) c.self.invariant.state.untimed)
+    (Sound-run m k.store.input k.journal.items (g.met.B.Behave.well_formed k.code.value) c.self.invariant.runs))
     (sym rests ∙ is)
 
 pub returns-then-self-clause-standing : goal.returns-then-self-clause-standing

@@ -1,4 +1,4 @@
-use Rattle.std.proofs.Common.{◌≡◌, ◌≢◌, ◌≤◌, ap, sym, ◌∙◌, arith, not, true, false}
+use Rattle.std.proofs.Common.{◌≤◌, ap, sym, ◌∙◌, arith, not}
 use Rattle.std.specs.Prelude.{is_some}
 use Rattle.cc_kernel.proofs.Least.{earliest-is}
 use Rattle.cc_kernel.proofs.Moments.{allowed-is, later-allowed, now-refused, over-refused, resting-allowed}

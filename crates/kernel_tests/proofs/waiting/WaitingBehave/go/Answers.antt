@@ -4,7 +4,7 @@ use Rattle.std.proofs.lemmas.List.{length-append}
 use Rattle.std.proofs.lemmas.Option.{slice_get_within}
 use Rattle.cc_base.specs.declared.request.Grant.{Grant}
 use Rattle.kernel_tests.specs.Tables.{steps_of}
-use Rattle.kernel_tests.proofs.delays.WaitingBehave.go.Goals as goal
+use Rattle.kernel_tests.proofs.waiting.WaitingBehave.go.Goals as goal
 
 one-more :
     (grants : List Grant) (grant : Grant) (n asked : ℕ)
