@@ -1,0 +1,13 @@
+pub mod Found
+pub mod Rows
+pub mod Heads
+pub mod Operators
+pub mod Expressions
+pub mod Pure
+pub mod Growth
+pub mod Types
+pub mod Accepts
+pub mod After
+pub mod Clauses
+pub mod Sites
+pub mod Statements

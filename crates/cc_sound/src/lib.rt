@@ -1,0 +1,7 @@
+//! What is found of a text without a fault is typed: expressions, clauses of accepts, and statements. Declarations and the
+//! whole program are to come.
+#![tactic(auto)]
+
+mod laws;
+
+pub use laws::{clauses_are_pure, expressions_are_typed, statements_are_typed};
