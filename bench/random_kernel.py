@@ -1,9 +1,9 @@
 #!/usr/bin/env python3
 """Runs random programs of up to six processes on one worker, and gives each journal to the machine over plain lists, which must
-take every event of it, and then print and stand as the run did.
+take every event of it, and then print and stand as the run did; and as many that may wait, on a kernel that is told random moments.
 
-The test bench/random_kernel_test.txt is put beside those of kernel_tests, in copies of the crates in a temporary folder, and is
-run by `rt try --test`, without a proof.
+The tests bench/random_kernel_test.txt and bench/random_timed_test.txt are put beside those of kernel_tests, in copies of the crates in
+a temporary folder, and are run by `rt try --test`, without a proof.
 
     bench/random_kernel.py [PROGRAMS]
 """
@@ -34,10 +34,11 @@ def build(folder, programs):
     for crate in BELOW:
         shutil.copytree(CRATES / crate, folder / "crates" / crate, ignore=shutil.ignore_patterns("out", "must-fail"))
     tests = folder / "crates" / "kernel_tests"
-    test = (HERE / "random_kernel_test.txt").read_text().replace("COUNT", str(programs))
-    (tests / "src" / "random.rt").write_text(test)
     library = tests / "src" / "lib.rt"
-    library.write_text(library.read_text() + "#[cfg(test)]\nmod random;\n")
+    for module, name in (("random", "random_kernel_test.txt"), ("random_timed", "random_timed_test.txt")):
+        test = (HERE / name).read_text().replace("COUNT", str(programs))
+        (tests / "src" / f"{module}.rt").write_text(test)
+        library.write_text(library.read_text() + f"#[cfg(test)]\nmod {module};\n")
     (folder / "crates.txt").write_text("".join(f"{crate}: {below}\n" for crate, below in BELOW.items()))
     return tests
 
@@ -49,7 +50,7 @@ def main():
         done = subprocess.run(["rt", "try", "--test"], cwd=tests, stdout=subprocess.PIPE, stderr=subprocess.STDOUT, text=True)
     if done.returncode != 0:
         sys.exit(done.stdout)
-    print("\n".join(re.findall(r"[0-9]+ (?:events|programs): .*|test random::.*", done.stdout)))
+    print("\n".join(re.findall(r"[0-9]+ (?:events|programs): .*|test random.*", done.stdout)))
 
 
 main()

@@ -8,15 +8,15 @@ ghost use Rattle.cc_command.specs.declared.text_fault.TextFaultKind.{TextFaultKi
 
 /// A text means one program at most.
 pub fn one_program()
-    ensures { (text : List ℕ) (first second : Parts) → MeansProgram text first → MeansProgram text second → first ≡ second }
+    ensures same { (text : List ℕ) (first second : Parts) → MeansProgram text first → MeansProgram text second → first ≡ second }
 {}
 
 /// A text has one first fault at most.
 pub fn one_fault()
-    ensures { (text : List ℕ) (p q : Place) (k l : TextFaultKind) → HasFault text p k → HasFault text q l → (p ≡ q) × (k ≡ l) }
+    ensures same { (text : List ℕ) (p q : Place) (k l : TextFaultKind) → HasFault text p k → HasFault text q l → (p ≡ q) × (k ≡ l) }
 {}
 
 /// A text that means a program has no fault.
 pub fn no_faulty_program()
-    ensures { (text : List ℕ) (program : Parts) (place : Place) (kind : TextFaultKind) → MeansProgram text program → ¬ HasFault text place kind }
+    ensures none { (text : List ℕ) (program : Parts) (place : Place) (kind : TextFaultKind) → MeansProgram text program → ¬ HasFault text place kind }
 {}

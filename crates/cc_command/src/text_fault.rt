@@ -23,7 +23,7 @@ pub enum TextFaultKind {
 impl TextFaultKind {
     /// The kind as a report names it.
     pub fn name(self) -> &'static str
-        ensures { result.now ≡ kind_name self }
+        ensures name { result.now ≡ kind_name self }
     {
         match self {
             TextFaultKind::Tokens(kind) => name_in_tokens(kind),

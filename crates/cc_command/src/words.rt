@@ -23,7 +23,7 @@ impl Model for Words {
 impl Words {
     /// No words.
     pub fn new(alloc: Global) -> Words
-        ensures { result ≡ [] }
+        ensures empty { result ≡ [] }
     {
         Words {
             alloc,
@@ -32,14 +32,14 @@ impl Words {
     }
 
     pub fn len(&self) -> usize
-        ensures { result ≡ length self.now }
+        ensures len { result ≡ length self.now }
     {
         self.items.len()
     }
 
     /// The word at this index, from 0; none exactly past the end.
     pub fn get(&self, at: usize) -> Option<&str>
-        ensures { option_map (λ word. word.now) result ≡ slice_get self.now at }
+        ensures word { option_map (λ word. word.now) result ≡ slice_get self.now at }
     {
         match self.items.get(at) {
             Some(word) => Some(word.as_str()),

@@ -54,7 +54,7 @@ impl From<Memory> for Stop {
 
 /// The kind of a reserved word.
 pub fn key(word: Word) -> u8
-    ensures { result ≡ kinds.word_kind word }
+    ensures key { result ≡ kinds.word_kind word }
 {
     match word {
         Word::Abort => 10,
@@ -114,7 +114,7 @@ pub fn key(word: Word) -> u8
 
 /// The kind of a mark.
 pub fn sign(mark: Mark) -> u8
-    ensures { result ≡ kinds.mark_kind mark }
+    ensures key { result ≡ kinds.mark_kind mark }
 {
     match mark {
         Mark::OpenParenthesis => 100,
@@ -153,18 +153,22 @@ pub fn sign(mark: Mark) -> u8
     }
 }
 
+/// The kind of every name.
 pub const NAME: u8 = 0;
 
+/// The kind of every number.
 pub const NUMBER: u8 = 1;
 
+/// The kind of every character.
 pub const CHARACTER: u8 = 2;
 
+/// The kind of every string.
 pub const STRING: u8 = 3;
 
 /// The kind of a token.
 #[tactic(auto, unfolding(cc_grammar::specs::Kinds::kind))]
 pub fn kind(token: &Token) -> u8
-    ensures { result ≡ kinds.kind token.now }
+    ensures kind { result ≡ kinds.kind token.now }
 {
     match &token.what {
         What::Name(_) => NAME,
@@ -202,21 +206,23 @@ impl<'a> Model for Cursor<'a> {
 }
 
 impl<'a> Cursor<'a> {
+    /// Begins at the first of these tokens.
     pub fn new(rest: &'a [Token]) -> Cursor<'a>
-        ensures { result ≡ rest.now }
+        ensures rest { result ≡ rest.now }
     {
         Cursor { rest }
     }
 
+    /// How many tokens are left.
     pub fn left(&self) -> usize
-        ensures { result ≡ length self.now }
+        ensures left { result ≡ length self.now }
     {
         self.rest.len()
     }
 
     /// The place of the next token; of the text's end where no token is left.
     pub fn place(&self, end: Place) -> Place
-        ensures { result ≡ place_of self.now end }
+        ensures place { result ≡ place_of self.now end }
     {
         match self.rest {
             [] => end,
@@ -226,7 +232,7 @@ impl<'a> Cursor<'a> {
 
     /// Whether the next token is of this kind.
     pub fn sees(&self, wanted: u8) -> bool
-        ensures { result ≡ reading.at (wanted ∷ []) self.now }
+        ensures seen { result ≡ reading.at (wanted ∷ []) self.now }
     {
         match self.rest {
             [] => false,
@@ -236,7 +242,7 @@ impl<'a> Cursor<'a> {
 
     /// Whether the next token is of one of these kinds.
     pub fn at(&self, list: &[u8]) -> bool
-        ensures { result ≡ reading.at list.now self.now }
+        ensures seen { result ≡ reading.at list.now self.now }
     {
         match self.rest {
             [] => false,
@@ -246,7 +252,7 @@ impl<'a> Cursor<'a> {
 
     /// Takes the next token, which is to be of this kind.
     pub fn expect(&mut self, wanted: u8) -> Result<&'a Token, Stop>
-        ensures { Takes (reading.expect wanted self.old) result self.new }
+        ensures taken { Takes (reading.expect wanted self.old) result self.new }
     {
         match self.rest {
             [first, rest @ ..] if wanted == kind(first) => {

@@ -18,6 +18,7 @@ use cc_lex::{Mark, Word};
 use sqlite_items::{Boxed, Items};
 use std::alloc::Global;
 
+/// The readers of expressions, with those of the expressions within, which add to the nesting.
 #[derive(Clone, Copy)]
 pub struct Expressions<A, C, U> {
     pub operands: Operands<A>,
@@ -74,11 +75,12 @@ impl<
         })
     }
 
+    /// Reads an operand with the prefix operator before it, if there is one.
     #[tactic(auto, using(crate::proofs::Expand::unary_is))]
     pub fn unary(&self, tokens: &mut Cursor<'_>) -> Result<Expression, Stop>
         requires assigns { Nests the.assign self.now.operands.simple.room (A.pre self.now.operands.assign) (A.post self.now.operands.assign) }
         requires unaries { Nests the.unary self.now.operands.simple.room (U.pre self.now.unary) (U.post self.now.unary) }
-        ensures { Reads (symbol self.now.operands.simple.room the.unary tokens.old) result tokens.new }
+        ensures read { Reads (symbol self.now.operands.simple.room the.unary tokens.old) result tokens.new }
     {
         if begins_prefix(tokens) {
             self.prefixed(tokens)
@@ -340,12 +342,13 @@ impl<
         Ok((then, otherwise))
     }
 
+    /// Reads an expression without `=`: a row of operators, with the two arms of a choice behind it, if there are any.
     #[tactic(auto, using(crate::proofs::Expand::conditional_is))]
     pub fn conditional(&self, tokens: &mut Cursor<'_>) -> Result<Expression, Stop>
         requires assigns { Nests the.assign self.now.operands.simple.room (A.pre self.now.operands.assign) (A.post self.now.operands.assign) }
         requires conditionals { Nests the.conditional self.now.operands.simple.room (C.pre self.now.conditional) (C.post self.now.conditional) }
         requires unaries { Nests the.unary self.now.operands.simple.room (U.pre self.now.unary) (U.post self.now.unary) }
-        ensures { Reads (symbol self.now.operands.simple.room the.conditional tokens.old) result tokens.new }
+        ensures read { Reads (symbol self.now.operands.simple.room the.conditional tokens.old) result tokens.new }
     {
         let condition = self.disjunction(tokens)?;
         if tokens.sees(sign(Mark::Question)) {
@@ -429,12 +432,13 @@ impl<
         Ok(within(self.operands.simple.alloc, place, wait, call, otherwise)?)
     }
 
+    /// Reads an expression.
     #[tactic(auto, using(crate::proofs::Expand::assign_is))]
     pub fn assign(&self, tokens: &mut Cursor<'_>) -> Result<Expression, Stop>
         requires assigns { Nests the.assign self.now.operands.simple.room (A.pre self.now.operands.assign) (A.post self.now.operands.assign) }
         requires conditionals { Nests the.conditional self.now.operands.simple.room (C.pre self.now.conditional) (C.post self.now.conditional) }
         requires unaries { Nests the.unary self.now.operands.simple.room (U.pre self.now.unary) (U.post self.now.unary) }
-        ensures { Reads (symbol self.now.operands.simple.room the.assign tokens.old) result tokens.new }
+        ensures read { Reads (symbol self.now.operands.simple.room the.assign tokens.old) result tokens.new }
     {
         if tokens.sees(key(Word::Within)) {
             self.timed(tokens)

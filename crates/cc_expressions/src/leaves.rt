@@ -13,7 +13,7 @@ use std::alloc::{AllocError, Global};
 
 /// The name that a token is, where it stands.
 pub fn identifier(alloc: Global, token: &Token) -> Result<Identifier, Memory>
-    ensures { IfOk result (λ x. x ≡ trees.identifier token.now) }
+    ensures identifier { IfOk result (λ x. x ≡ trees.identifier token.now) }
 {
     let name = match &token.what {
         What::Name(name) => name.copy(alloc)?,
@@ -27,7 +27,7 @@ pub fn identifier(alloc: Global, token: &Token) -> Result<Identifier, Memory>
 
 /// The string that a token is.
 pub fn format(alloc: Global, token: &Token) -> Result<Format, Memory>
-    ensures { IfOk result (λ x. x ≡ trees.format token.now) }
+    ensures format { IfOk result (λ x. x ≡ trees.format token.now) }
 {
     let bytes = match &token.what {
         What::String(bytes) => bytes.copy()?,
@@ -60,8 +60,9 @@ fn byte_of(token: &Token) -> u8
     }
 }
 
+/// The expression of a token that is a number.
 pub fn number(token: &Token) -> Expression
-    ensures { result ≡ expression.Number token.now.place (trees.number_value token.now.what) (trees.number_size token.now.what) }
+    ensures number { result ≡ expression.Number token.now.place (trees.number_value token.now.what) (trees.number_size token.now.what) }
 {
     let (value, size) = number_of(token);
     Expression::Number {
@@ -71,8 +72,9 @@ pub fn number(token: &Token) -> Expression
     }
 }
 
+/// The expression of a token that is a character.
 pub fn character(token: &Token) -> Expression
-    ensures { result ≡ expression.Character token.now.place (trees.character_byte token.now.what) }
+    ensures character { result ≡ expression.Character token.now.place (trees.character_byte token.now.what) }
 {
     Expression::Character {
         place: token.place,
@@ -80,8 +82,9 @@ pub fn character(token: &Token) -> Expression
     }
 }
 
+/// The length of an array that is written as a number.
 pub fn number_length(token: &Token) -> Length
-    ensures { result ≡ some_length.Number token.now.place (trees.number_value token.now.what) (trees.number_size token.now.what) }
+    ensures length { result ≡ some_length.Number token.now.place (trees.number_value token.now.what) (trees.number_size token.now.what) }
 {
     let (value, size) = number_of(token);
     Length::Number {
@@ -91,8 +94,9 @@ pub fn number_length(token: &Token) -> Length
     }
 }
 
+/// The length of an array that is written as a character.
 pub fn character_length(token: &Token) -> Length
-    ensures { result ≡ some_length.Character token.now.place (trees.character_byte token.now.what) }
+    ensures length { result ≡ some_length.Character token.now.place (trees.character_byte token.now.what) }
 {
     Length::Character {
         place: token.place,
@@ -102,7 +106,7 @@ pub fn character_length(token: &Token) -> Length
 
 /// The list with an item in front of it.
 pub fn before<T: Drop>(alloc: Global, first: T, others: Items<T>) -> Result<Items<T>, AllocError>
-    ensures { IfOk result (λ all. all ≡ first ∷ others) }
+    ensures all { IfOk result (λ all. all ≡ first ∷ others) }
 {
     let mut all = Items::new(alloc);
     all.push(first)?;

@@ -16,7 +16,7 @@ use std::alloc::Global;
 
 /// Why a phrase is not read for which no room is left.
 pub fn refused(begins: bool) -> Stop
-    ensures { result ≡ if begins then stop.Deep else stop.Bad }
+    ensures stop { result ≡ if begins then stop.Deep else stop.Bad }
 {
     if begins { Stop::Deep } else { Stop::Bad }
 }
@@ -24,7 +24,7 @@ pub fn refused(begins: bool) -> Stop
 /// An expression.
 #[cycle(expressions)]
 pub fn assign(alloc: Global, tokens: &mut Cursor<'_>, room: usize) -> Result<Expression, Stop>
-    ensures { Reads (level room the.assign tokens.old) result tokens.new }
+    ensures read { Reads (level room the.assign tokens.old) result tokens.new }
 {
     if room == 0 {
         return Err(refused(begins_assign(tokens)));
@@ -45,7 +45,7 @@ pub fn assign(alloc: Global, tokens: &mut Cursor<'_>, room: usize) -> Result<Exp
 /// What stands behind the `:` of a choice.
 #[cycle(expressions)]
 pub fn conditional(alloc: Global, tokens: &mut Cursor<'_>, room: usize) -> Result<Expression, Stop>
-    ensures { Reads (level room the.conditional tokens.old) result tokens.new }
+    ensures read { Reads (level room the.conditional tokens.old) result tokens.new }
 {
     if room == 0 {
         return Err(refused(begins_operand(tokens)));
@@ -66,7 +66,7 @@ pub fn conditional(alloc: Global, tokens: &mut Cursor<'_>, room: usize) -> Resul
 /// The operand of a prefix operator.
 #[cycle(expressions)]
 pub fn unary(alloc: Global, tokens: &mut Cursor<'_>, room: usize) -> Result<Expression, Stop>
-    ensures { Reads (level room the.unary tokens.old) result tokens.new }
+    ensures read { Reads (level room the.unary tokens.old) result tokens.new }
 {
     if room == 0 {
         return Err(refused(begins_operand(tokens)));

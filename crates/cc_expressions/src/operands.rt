@@ -19,6 +19,7 @@ use cc_lex::{Mark, Word};
 use sqlite_items::{Boxed, Items};
 use std::alloc::Global;
 
+/// The readers of operands, with the one of the expressions within.
 #[derive(Clone, Copy)]
 pub struct Operands<A> {
     pub simple: Simple,
@@ -27,17 +28,19 @@ pub struct Operands<A> {
 }
 
 impl<A: Fn(Global, &mut Cursor<'_>, usize) -> Result<Expression, Stop>> Operands<A> {
+    /// Reads an expression one level deeper.
     pub fn nested_assign(&self, tokens: &mut Cursor<'_>) -> Result<Expression, Stop>
         requires assigns { Nests the.assign self.now.simple.room (A.pre self.now.assign) (A.post self.now.assign) }
-        ensures { Reads (level self.now.simple.room the.assign tokens.old) result tokens.new }
+        ensures read { Reads (level self.now.simple.room the.assign tokens.old) result tokens.new }
     {
         (self.assign)(self.simple.alloc, tokens, self.simple.room)
     }
 
+    /// Reads an expression in parentheses.
     #[tactic(auto, using(crate::proofs::Expand::condition_is))]
     pub fn condition(&self, tokens: &mut Cursor<'_>) -> Result<Expression, Stop>
         requires assigns { Nests the.assign self.now.simple.room (A.pre self.now.assign) (A.post self.now.assign) }
-        ensures { Reads (symbol self.now.simple.room the.condition tokens.old) result tokens.new }
+        ensures read { Reads (symbol self.now.simple.room the.condition tokens.old) result tokens.new }
     {
         tokens.expect(sign(Mark::OpenParenthesis))?;
         let inner = self.nested_assign(tokens)?;
@@ -45,10 +48,11 @@ impl<A: Fn(Global, &mut Cursor<'_>, usize) -> Result<Expression, Stop>> Operands
         Ok(inner)
     }
 
+    /// Reads an expression, or nothing where none begins.
     #[tactic(auto, using(crate::proofs::Expand::optional_assign_is))]
     pub fn optional_assign(&self, tokens: &mut Cursor<'_>) -> Result<Option<Expression>, Stop>
         requires assigns { Nests the.assign self.now.simple.room (A.pre self.now.assign) (A.post self.now.assign) }
-        ensures { Reads (symbol self.now.simple.room the.optional_assign tokens.old) result tokens.new }
+        ensures read { Reads (symbol self.now.simple.room the.optional_assign tokens.old) result tokens.new }
     {
         if begins_assign(tokens) {
             let value = self.nested_assign(tokens)?;
@@ -291,10 +295,11 @@ impl<A: Fn(Global, &mut Cursor<'_>, usize) -> Result<Expression, Stop>> Operands
         Ok(found)
     }
 
+    /// Reads an operand with the steps and the suffix behind it.
     #[tactic(auto, using(crate::proofs::Expand::postfix_is))]
     pub fn postfix(&self, tokens: &mut Cursor<'_>) -> Result<Expression, Stop>
         requires assigns { Nests the.assign self.now.simple.room (A.pre self.now.assign) (A.post self.now.assign) }
-        ensures { Reads (symbol self.now.simple.room the.postfix tokens.old) result tokens.new }
+        ensures read { Reads (symbol self.now.simple.room the.postfix tokens.old) result tokens.new }
     {
         let first = self.primary(tokens)?;
         let steps = self.steps(tokens)?;

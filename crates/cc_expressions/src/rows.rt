@@ -11,12 +11,13 @@ use cc_grammar::{
 use sqlite_items::{Boxed, Items};
 use std::alloc::{AllocError, Global};
 
+/// Operands with `||` between them; an operand alone is itself.
 pub fn disjunction(
     alloc: Global,
     first: Expression,
     more: Items<Expression>,
 ) -> Result<Expression, AllocError>
-    ensures { IfOk result (λ x. x ≡ trees.disjunction_of first more) }
+    ensures made { IfOk result (λ x. x ≡ trees.disjunction_of first more) }
 {
     if more.is_empty() {
         return Ok(first);
@@ -25,12 +26,13 @@ pub fn disjunction(
     Ok(Expression::Disjunction { first, more })
 }
 
+/// Operands with `&&` between them; an operand alone is itself.
 pub fn conjunction(
     alloc: Global,
     first: Expression,
     more: Items<Expression>,
 ) -> Result<Expression, AllocError>
-    ensures { IfOk result (λ x. x ≡ trees.conjunction_of first more) }
+    ensures made { IfOk result (λ x. x ≡ trees.conjunction_of first more) }
 {
     if more.is_empty() {
         return Ok(first);
@@ -39,12 +41,13 @@ pub fn conjunction(
     Ok(Expression::Conjunction { first, more })
 }
 
+/// Operands with `==` and `!=` between them; an operand alone is itself.
 pub fn equality(
     alloc: Global,
     first: Expression,
     more: Items<EqualityStep>,
 ) -> Result<Expression, AllocError>
-    ensures { IfOk result (λ x. x ≡ trees.equality_of first more) }
+    ensures made { IfOk result (λ x. x ≡ trees.equality_of first more) }
 {
     if more.is_empty() {
         return Ok(first);
@@ -53,12 +56,13 @@ pub fn equality(
     Ok(Expression::Equality { first, more })
 }
 
+/// Operands with `<`, `<=`, `>` and `>=` between them; an operand alone is itself.
 pub fn order(
     alloc: Global,
     first: Expression,
     more: Items<OrderStep>,
 ) -> Result<Expression, AllocError>
-    ensures { IfOk result (λ x. x ≡ trees.order_of first more) }
+    ensures made { IfOk result (λ x. x ≡ trees.order_of first more) }
 {
     if more.is_empty() {
         return Ok(first);
@@ -67,8 +71,9 @@ pub fn order(
     Ok(Expression::Order { first, more })
 }
 
+/// Operands with `+` and `-` between them; an operand alone is itself.
 pub fn sum(alloc: Global, first: Expression, more: Items<SumStep>) -> Result<Expression, AllocError>
-    ensures { IfOk result (λ x. x ≡ trees.sum_of first more) }
+    ensures made { IfOk result (λ x. x ≡ trees.sum_of first more) }
 {
     if more.is_empty() {
         return Ok(first);
@@ -77,12 +82,13 @@ pub fn sum(alloc: Global, first: Expression, more: Items<SumStep>) -> Result<Exp
     Ok(Expression::Sum { first, more })
 }
 
+/// Operands with `*`, `/` and `%` between them; an operand alone is itself.
 pub fn term(
     alloc: Global,
     first: Expression,
     more: Items<TermStep>,
 ) -> Result<Expression, AllocError>
-    ensures { IfOk result (λ x. x ≡ trees.term_of first more) }
+    ensures made { IfOk result (λ x. x ≡ trees.term_of first more) }
 {
     if more.is_empty() {
         return Ok(first);
@@ -91,13 +97,14 @@ pub fn term(
     Ok(Expression::Term { first, more })
 }
 
+/// An operand with steps and a suffix behind it; without any it is itself.
 pub fn postfix(
     alloc: Global,
     first: Expression,
     steps: Items<Step>,
     suffix: Option<SuffixOperator>,
 ) -> Result<Expression, AllocError>
-    ensures { IfOk result (λ x. x ≡ trees.postfix_of first steps suffix) }
+    ensures made { IfOk result (λ x. x ≡ trees.postfix_of first steps suffix) }
 {
     if steps.is_empty() && suffix.is_none() {
         return Ok(first);
@@ -110,13 +117,14 @@ pub fn postfix(
     })
 }
 
+/// `condition ? then : otherwise`.
 pub fn choice(
     alloc: Global,
     condition: Expression,
     then: Expression,
     otherwise: Expression,
 ) -> Result<Expression, AllocError>
-    ensures { IfOk result (λ x. x ≡ expression.Choice condition then otherwise) }
+    ensures made { IfOk result (λ x. x ≡ expression.Choice condition then otherwise) }
 {
     let condition = Boxed::new(alloc, condition)?;
     let then = Boxed::new(alloc, then)?;
@@ -128,13 +136,14 @@ pub fn choice(
     })
 }
 
+/// A value that is stored by `=` or by an operator with `=`.
 pub fn stored(
     alloc: Global,
     target: Expression,
     operator: AssignOperator,
     value: Expression,
 ) -> Result<Expression, AllocError>
-    ensures { IfOk result (λ x. x ≡ expression.Store target operator value) }
+    ensures made { IfOk result (λ x. x ≡ expression.Store target operator value) }
 {
     let target = Boxed::new(alloc, target)?;
     let value = Boxed::new(alloc, value)?;
@@ -145,6 +154,7 @@ pub fn stored(
     })
 }
 
+/// `within (wait) call otherwise`.
 pub fn within(
     alloc: Global,
     place: Place,
@@ -152,7 +162,7 @@ pub fn within(
     call: Expression,
     otherwise: Expression,
 ) -> Result<Expression, AllocError>
-    ensures { IfOk result (λ x. x ≡ expression.Within place wait call otherwise) }
+    ensures made { IfOk result (λ x. x ≡ expression.Within place wait call otherwise) }
 {
     let wait = Boxed::new(alloc, wait)?;
     let call = Boxed::new(alloc, call)?;

@@ -22,9 +22,10 @@ pub struct Simple {
 }
 
 impl Simple {
+    /// Reads `=`, or an operator with `=`.
     #[tactic(auto, using(crate::proofs::Expand::assign_operator_is))]
     pub fn assign_operator(&self, tokens: &mut Cursor<'_>) -> Result<AssignOperator, Stop>
-        ensures { Reads (symbol self.now.room the.assign_operator tokens.old) result tokens.new }
+        ensures read { Reads (symbol self.now.room the.assign_operator tokens.old) result tokens.new }
     {
         if tokens.sees(sign(Mark::Assign)) {
             tokens.expect(sign(Mark::Assign))?;
@@ -47,9 +48,10 @@ impl Simple {
         }
     }
 
+    /// Reads `==` or `!=`.
     #[tactic(auto, using(crate::proofs::Expand::equality_operator_is))]
     pub fn equality_operator(&self, tokens: &mut Cursor<'_>) -> Result<EqualityOperator, Stop>
-        ensures { Reads (symbol self.now.room the.equality_operator tokens.old) result tokens.new }
+        ensures read { Reads (symbol self.now.room the.equality_operator tokens.old) result tokens.new }
     {
         if tokens.sees(sign(Mark::Equal)) {
             tokens.expect(sign(Mark::Equal))?;
@@ -60,9 +62,10 @@ impl Simple {
         }
     }
 
+    /// Reads `<`, `<=`, `>` or `>=`.
     #[tactic(auto, using(crate::proofs::Expand::order_operator_is))]
     pub fn order_operator(&self, tokens: &mut Cursor<'_>) -> Result<OrderOperator, Stop>
-        ensures { Reads (symbol self.now.room the.order_operator tokens.old) result tokens.new }
+        ensures read { Reads (symbol self.now.room the.order_operator tokens.old) result tokens.new }
     {
         if tokens.sees(sign(Mark::Less)) {
             tokens.expect(sign(Mark::Less))?;
@@ -79,9 +82,10 @@ impl Simple {
         }
     }
 
+    /// Reads `+` or `-`.
     #[tactic(auto, using(crate::proofs::Expand::sum_operator_is))]
     pub fn sum_operator(&self, tokens: &mut Cursor<'_>) -> Result<SumOperator, Stop>
-        ensures { Reads (symbol self.now.room the.sum_operator tokens.old) result tokens.new }
+        ensures read { Reads (symbol self.now.room the.sum_operator tokens.old) result tokens.new }
     {
         if tokens.sees(sign(Mark::Plus)) {
             tokens.expect(sign(Mark::Plus))?;
@@ -92,9 +96,10 @@ impl Simple {
         }
     }
 
+    /// Reads `*`, `/` or `%`.
     #[tactic(auto, using(crate::proofs::Expand::term_operator_is))]
     pub fn term_operator(&self, tokens: &mut Cursor<'_>) -> Result<TermOperator, Stop>
-        ensures { Reads (symbol self.now.room the.term_operator tokens.old) result tokens.new }
+        ensures read { Reads (symbol self.now.room the.term_operator tokens.old) result tokens.new }
     {
         if tokens.sees(sign(Mark::Star)) {
             tokens.expect(sign(Mark::Star))?;
@@ -108,9 +113,10 @@ impl Simple {
         }
     }
 
+    /// Reads a prefix operator.
     #[tactic(auto, using(crate::proofs::Expand::prefix_is))]
     pub fn prefix(&self, tokens: &mut Cursor<'_>) -> Result<Prefix, Stop>
-        ensures { Reads (symbol self.now.room the.prefix tokens.old) result tokens.new }
+        ensures read { Reads (symbol self.now.room the.prefix tokens.old) result tokens.new }
     {
         if tokens.sees(sign(Mark::Minus)) {
             let place = tokens.expect(sign(Mark::Minus))?.place;
@@ -158,9 +164,10 @@ impl Simple {
         }
     }
 
+    /// Reads `++` or `--`, or nothing where neither stands.
     #[tactic(auto, using(crate::proofs::Expand::optional_suffix_is))]
     pub fn optional_suffix(&self, tokens: &mut Cursor<'_>) -> Result<Option<SuffixOperator>, Stop>
-        ensures { Reads (symbol self.now.room the.optional_suffix tokens.old) result tokens.new }
+        ensures read { Reads (symbol self.now.room the.optional_suffix tokens.old) result tokens.new }
     {
         if tokens.at(&[sign(Mark::Increment), sign(Mark::Decrement)]) {
             let suffix = self.suffix(tokens)?;
@@ -170,9 +177,10 @@ impl Simple {
         }
     }
 
+    /// Reads a number or a character.
     #[tactic(auto, using(crate::proofs::Expand::literal_is))]
     pub fn literal(&self, tokens: &mut Cursor<'_>) -> Result<Expression, Stop>
-        ensures { Reads (symbol self.now.room the.literal tokens.old) result tokens.new }
+        ensures read { Reads (symbol self.now.room the.literal tokens.old) result tokens.new }
     {
         if tokens.sees(NUMBER) {
             Ok(number(tokens.expect(NUMBER)?))

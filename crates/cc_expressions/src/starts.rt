@@ -9,8 +9,9 @@ ghost use Rattle.std.specs.Prelude.{◌≡◌, ◌∷◌, []};
 use crate::cursor::{CHARACTER, Cursor, NAME, NUMBER, key, sign};
 use cc_lex::{Mark, Word};
 
+/// Whether the next token begins a type.
 pub fn begins_type(tokens: &Cursor<'_>) -> bool
-    ensures { result ≡ at type_starts tokens.now }
+    ensures begins { result ≡ at type_starts tokens.now }
 {
     tokens.at(&[
         key(Word::Void),
@@ -20,14 +21,16 @@ pub fn begins_type(tokens: &Cursor<'_>) -> bool
     ]) || tokens.at(&[key(Word::Struct), key(Word::Enum), key(Word::Process)])
 }
 
+/// Whether the next token begins an item.
 pub fn begins_item(tokens: &Cursor<'_>) -> bool
-    ensures { result ≡ at item_starts tokens.now }
+    ensures begins { result ≡ at item_starts tokens.now }
 {
     tokens.sees(NAME) || begins_type(tokens)
 }
 
+/// Whether the next token is a prefix operator.
 pub fn begins_prefix(tokens: &Cursor<'_>) -> bool
-    ensures { result ≡ at prefix_starts tokens.now }
+    ensures begins { result ≡ at prefix_starts tokens.now }
 {
     tokens.at(&[
         sign(Mark::Minus),
@@ -38,8 +41,9 @@ pub fn begins_prefix(tokens: &Cursor<'_>) -> bool
     ])
 }
 
+/// Whether the next token begins an operand without a prefix operator.
 pub fn begins_primary(tokens: &Cursor<'_>) -> bool
-    ensures { result ≡ at primary_starts tokens.now }
+    ensures begins { result ≡ at primary_starts tokens.now }
 {
     tokens.at(&[NUMBER, CHARACTER, NAME, key(Word::Create)])
         || tokens.at(&[
@@ -50,20 +54,23 @@ pub fn begins_primary(tokens: &Cursor<'_>) -> bool
         ])
 }
 
+/// Whether the next token begins an operand.
 pub fn begins_operand(tokens: &Cursor<'_>) -> bool
-    ensures { result ≡ at operand_starts tokens.now }
+    ensures begins { result ≡ at operand_starts tokens.now }
 {
     begins_prefix(tokens) || begins_primary(tokens)
 }
 
+/// Whether the next token begins an expression.
 pub fn begins_assign(tokens: &Cursor<'_>) -> bool
-    ensures { result ≡ at assign_starts tokens.now }
+    ensures begins { result ≡ at assign_starts tokens.now }
 {
     tokens.sees(key(Word::Within)) || begins_operand(tokens)
 }
 
+/// Whether the next token begins `if`, `while`, `do` or `for`.
 pub fn begins_control(tokens: &Cursor<'_>) -> bool
-    ensures { result ≡ at (word_kind word.If ∷ word_kind word.While ∷ word_kind word.Do ∷ word_kind word.For ∷ []) tokens.now }
+    ensures begins { result ≡ at (word_kind word.If ∷ word_kind word.While ∷ word_kind word.Do ∷ word_kind word.For ∷ []) tokens.now }
 {
     tokens.at(&[
         key(Word::If),
@@ -73,8 +80,9 @@ pub fn begins_control(tokens: &Cursor<'_>) -> bool
     ])
 }
 
+/// Whether the next token begins a jump, `delay`, `accept` or `select`.
 pub fn begins_jump(tokens: &Cursor<'_>) -> bool
-    ensures { result ≡ at (word_kind word.Break ∷ word_kind word.Continue ∷ word_kind word.Return ∷ word_kind word.Treturn ∷ []) tokens.now }
+    ensures begins { result ≡ at (word_kind word.Break ∷ word_kind word.Continue ∷ word_kind word.Return ∷ word_kind word.Treturn ∷ []) tokens.now }
 {
     tokens.at(&[
         key(Word::Break),
@@ -102,22 +110,25 @@ fn begins_word_statement(tokens: &Cursor<'_>) -> bool
     begins_control(tokens) || begins_jump_or_process(tokens)
 }
 
+/// Whether the next token begins a statement.
 pub fn begins_statement(tokens: &Cursor<'_>) -> bool
-    ensures { result ≡ at statement_starts tokens.now }
+    ensures begins { result ≡ at statement_starts tokens.now }
 {
     tokens.at(&[sign(Mark::Semicolon), sign(Mark::OpenBrace)])
         || begins_word_statement(tokens)
         || begins_assign(tokens)
 }
 
+/// Whether the next token begins an entry of a block.
 pub fn begins_entry(tokens: &Cursor<'_>) -> bool
-    ensures { result ≡ at entry_starts tokens.now }
+    ensures begins { result ≡ at entry_starts tokens.now }
 {
     begins_type(tokens) || begins_statement(tokens)
 }
 
+/// Whether the next token is `=` or an operator with `=`.
 pub fn begins_store(tokens: &Cursor<'_>) -> bool
-    ensures { result ≡ at assign_operators tokens.now }
+    ensures begins { result ≡ at assign_operators tokens.now }
 {
     tokens.at(&[
         sign(Mark::Assign),

@@ -4,12 +4,12 @@ ghost use Rattle.cc_grammar.specs.Laws.{ComputedIsRight, EachHasAPhrase, FrontAs
 
 /// The tokens of a sentence are those of one tree.
 pub fn one_tree()
-    ensures { OneTree }
+    ensures one { OneTree }
 {}
 
 /// Each symbol has a phrase.
 pub fn each_symbol_has_a_phrase()
-    ensures { EachHasAPhrase }
+    ensures phrase { EachHasAPhrase }
 {}
 
 /// The tables of the tokens with which phrases begin, and of the symbols that may be left out, are right.
@@ -42,7 +42,7 @@ pub fn viable_tokens()
 
 /// All sentences that have the same tokens in front agree on their nesting there.
 pub fn one_nesting()
-    ensures { NestingAgrees }
+    ensures same { NestingAgrees }
 {}
 
 /// Each list of tokens has an answer, and one only.

@@ -4,20 +4,23 @@ ghost use Rattle.std.specs.Prelude.{◌≡◌, ◌≤◌, length};
 ghost use Rattle.cc_lex.specs.Bytes as spec;
 ghost use Rattle.cc_lex.specs.Reading.{run};
 
+/// Whether a byte is white space: a blank, a tab, a line feed, a carriage return, a vertical tab or a form feed.
 pub fn is_space(b: u8) -> bool
-    ensures { result ≡ spec.is_space b }
+    ensures space { result ≡ spec.is_space b }
 {
     b == b' ' || b == b'\t' || b == b'\n' || b == b'\r' || b == 11 || b == 12
 }
 
+/// Whether a byte is a letter of a name: `a` to `z`, `A` to `Z`, or `_`.
 pub fn is_letter(b: u8) -> bool
-    ensures { result ≡ spec.is_letter b }
+    ensures letter { result ≡ spec.is_letter b }
 {
     b'a' <= b && b <= b'z' || b'A' <= b && b <= b'Z' || b == b'_'
 }
 
+/// Whether a byte is a decimal digit.
 pub fn is_digit(b: u8) -> bool
-    ensures { result ≡ spec.is_digit b }
+    ensures digit { result ≡ spec.is_digit b }
 {
     b'0' <= b && b <= b'9'
 }
@@ -28,21 +31,23 @@ fn is_word_byte(b: u8) -> bool
     is_letter(b) || is_digit(b)
 }
 
+/// Whether a byte stands for itself between `'` and `'`.
 pub fn is_plain_character(b: u8) -> bool
-    ensures { result ≡ spec.is_plain_character b }
+    ensures plain { result ≡ spec.is_plain_character b }
 {
     b' ' <= b && b <= b'~' && b != b'\'' && b != b'\\'
 }
 
+/// Whether a byte stands for itself between `"` and `"`.
 pub fn is_plain_in_string(b: u8) -> bool
-    ensures { result ≡ spec.is_plain_in_string b }
+    ensures plain { result ≡ spec.is_plain_in_string b }
 {
     (b' ' <= b && b <= b'~' || 128 <= b) && b != b'"' && b != b'\\'
 }
 
 /// What a byte is worth as a digit, and 16 where it is none.
 pub fn digit_of(b: u8) -> u64
-    ensures { result ≡ spec.digit_of b }
+    ensures digit { result ≡ spec.digit_of b }
 {
     match b {
         b'0'..=b'9' => u64::from(b - b'0'),

@@ -9,7 +9,7 @@ ghost use Rattle.cc_lex.specs.declared.token.Token.{Token};
 
 /// Two token lists that spell one text are one list.
 pub fn one_spelling()
-    ensures { (text : List ℕ) (a b : TokenList) → Spells text a → Spells text b → a ≡ b }
+    ensures same { (text : List ℕ) (a b : TokenList) → Spells text a → Spells text b → a ≡ b }
 {}
 
 /// A text has one first fault at most, and none where tokens spell it and it is not too long.
@@ -21,5 +21,5 @@ pub fn one_fault()
 
 /// Each text is read up to its end or up to a fault.
 pub fn each_text_is_read()
-    ensures { (text : List ℕ) → (tokens : List Token) × (end : Place) × (ending : Ending) × Reads start text tokens end ending }
+    ensures read { (text : List ℕ) → (tokens : List Token) × (end : Place) × (ending : Ending) × Reads start text tokens end ending }
 {}

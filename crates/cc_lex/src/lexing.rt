@@ -63,9 +63,9 @@ pub fn lex(alloc: Global, text: &[u8]) -> Result<Tokens, LexError>
     ensures found { IfOk result (λ tokens. (length text.now ≤ longest_text) × Spells text.now tokens) }
     // A fault that is answered is the first one.
     ensures fault { IfFault result (FirstFault text.now) }
-    // What spells the text is answered, unless memory is wanting.
+    // What spells the text is answered, out of memory apart.
     ensures only { (tokens : TokenList) → length text.now ≤ longest_text → Spells text.now tokens → Gives result (Ok tokens) }
-    // The first fault is answered, unless memory is wanting.
+    // The first fault is answered, out of memory apart.
     ensures first { (place : Place) (kind : LexKind) → FirstFault text.now place kind → Gives result (Err (LexError.Fault place kind)) }
 {
     if text.len() > LONGEST_TEXT {

@@ -96,7 +96,7 @@ fn short_mark(b: u8) -> (Piece, usize)
 #[inline]
 #[tactic(auto, unfolding(crate::specs::Reading::mark_at))]
 pub fn mark_at(b: u8, rest: &[u8]) -> (Piece, usize)
-    ensures { result ≡ reading.mark_at b rest.now }
+    ensures mark { result ≡ reading.mark_at b rest.now }
 {
     match rest {
         [] => short_mark(b),
@@ -126,7 +126,7 @@ fn comment_len(text: &[u8]) -> Option<usize>
 #[inline]
 #[tactic(auto, unfolding(crate::specs::Reading::slash_at))]
 pub fn slash_at(rest: &[u8]) -> (Piece, usize)
-    ensures { result ≡ reading.slash_at rest.now }
+    ensures piece { result ≡ reading.slash_at rest.now }
 {
     match rest {
         [b'/', line @ ..] => (Piece::Comment, line_len(line) + 2),

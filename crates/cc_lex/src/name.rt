@@ -34,7 +34,7 @@ impl Model for Name {
 impl Name {
     /// The name of these bytes.
     pub fn from_slice(alloc: Global, name: &[u8]) -> Result<Name, Memory>
-        ensures { IfOk result (λ n. n ≡ name.now) }
+        ensures bytes { IfOk result (λ n. n ≡ name.now) }
     {
         if name.len() <= SHORT {
             let mut bytes = [0; SHORT];
@@ -51,8 +51,9 @@ impl Name {
         })
     }
 
+    /// The bytes of the name.
     pub fn as_slice(&self) -> &[u8]
-        ensures { result.now ≡ self.now }
+        ensures bytes { result.now ≡ self.now }
     {
         match &self.kept {
             Kept::Short { len, bytes } => &bytes[..*len as usize],
@@ -62,7 +63,7 @@ impl Name {
 
     /// The same name, in memory of its own.
     pub fn copy(&self, alloc: Global) -> Result<Name, Memory>
-        ensures { IfOk result (λ n. n ≡ self.now) }
+        ensures bytes { IfOk result (λ n. n ≡ self.now) }
     {
         Name::from_slice(alloc, self.as_slice())
     }

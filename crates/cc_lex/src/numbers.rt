@@ -93,7 +93,7 @@ fn number_of(bytes: &[u8]) -> Piece
 /// The number at the front of a text that begins with a digit, or its fault, and its length.
 #[tactic(auto, unfolding(crate::specs::Reading::number_at))]
 pub fn number_at(text: &[u8]) -> (Piece, usize)
-    ensures { result ≡ reading.number_at text.now }
+    ensures number { result ≡ reading.number_at text.now }
 {
     let len = word_len(text);
     let (bytes, _rest) = text.split_at(len);

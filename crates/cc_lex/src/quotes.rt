@@ -28,7 +28,7 @@ fn escape(letter: u8) -> Option<u8>
 /// The character behind an opening quote, and its length with that quote.
 #[tactic(auto, unfolding(crate::specs::Reading::character_at))]
 pub fn character_at(text: &[u8]) -> (Piece, usize)
-    ensures { result ≡ reading.character_at text.now }
+    ensures character { result ≡ reading.character_at text.now }
 {
     match text {
         [b'\\', letter, rest @ ..] => escaped_character(escape(*letter), rest),
@@ -62,7 +62,7 @@ fn string_byte(text: &[u8]) -> Option<(u8, usize)>
 /// The string behind an opening quote, and its length with that quote.
 #[tactic(auto, unfolding(crate::specs::Reading::string_at))]
 pub fn string_at(alloc: Global, text: &[u8]) -> Result<(Piece, usize), Memory>
-    ensures { IfOk result (λ found. found ≡ reading.string_at text.now) }
+    ensures string { IfOk result (λ found. found ≡ reading.string_at text.now) }
 {
     let mut bytes = Bytes::new(alloc);
     let mut len = 0;

@@ -36,8 +36,9 @@ impl Tokens {
         }
     }
 
+    /// How many tokens there are.
     pub fn len(&self) -> usize
-        ensures { result ≡ length self.now.tokens }
+        ensures len { result ≡ length self.now.tokens }
     {
         self.items.len()
     }
@@ -57,27 +58,28 @@ impl Tokens {
 
     /// The token at this index, from 0; none exactly past the end.
     pub fn get(&self, at: usize) -> Option<&Token>
-        ensures { MatchOption result (slice_get self.now.tokens at ≡ None) (λ t. slice_get self.now.tokens at ≡ Some t.now) }
+        ensures token { MatchOption result (slice_get self.now.tokens at ≡ None) (λ t. slice_get self.now.tokens at ≡ Some t.now) }
     {
         self.items.get(at)
     }
 
+    /// All of them, in the order written.
     pub fn as_slice(&self) -> &[Token]
-        ensures { result.now ≡ self.now.tokens }
+        ensures tokens { result.now ≡ self.now.tokens }
     {
         self.items.as_slice()
     }
 
     /// The place of the text's end.
     pub fn end(&self) -> Place
-        ensures { result ≡ self.now.end }
+        ensures end { result ≡ self.now.end }
     {
         self.end
     }
 
     /// Sets the place of the text's end.
     pub fn set_end(&mut self, end: Place)
-        ensures { self.new ≡ record self.old { end = end } }
+        ensures end { self.new ≡ record self.old { end = end } }
     {
         self.end = end;
     }

@@ -84,7 +84,7 @@ fn word_in(table: &[(&str, Word)], bytes: &[u8]) -> Option<Word>
 /// The reserved word of these bytes. Most names are told from the words by their length.
 #[tactic(auto, unfolding(crate::specs::Words::reserved_word))]
 pub fn reserved_word(bytes: &[u8]) -> Option<Word>
-    ensures { result ≡ reserved_word bytes.now }
+    ensures word { result ≡ reserved_word bytes.now }
 {
     if bytes.len() < SHORTEST_WORD || LONGEST_WORD < bytes.len() {
         return None;

@@ -114,11 +114,12 @@ impl<
         Ok((clauses.into_inner(), block))
     }
 
+    /// Reads an `accept`.
     #[tactic(auto, using(crate::proofs::Expand::accept_is))]
     pub fn accept(&self, tokens: &mut Cursor<'_>) -> Result<Accept, Stop>
         requires assigns { Nests the.assign self.now.operands.simple.room (A.pre self.now.operands.assign) (A.post self.now.operands.assign) }
         requires statements { Nests the.statement self.now.operands.simple.room (S.pre self.now.statement) (S.post self.now.statement) }
-        ensures { Reads (symbol self.now.operands.simple.room the.accept tokens.old) result tokens.new }
+        ensures read { Reads (symbol self.now.operands.simple.room the.accept tokens.old) result tokens.new }
     {
         let place = tokens.expect(key(Word::Accept))?.place;
         let (name, names) = self.accept_head(tokens)?;
@@ -136,7 +137,7 @@ impl<
     pub fn boxed_accept(&self, tokens: &mut Cursor<'_>) -> Result<Boxed<Accept>, Stop>
         requires assigns { Nests the.assign self.now.operands.simple.room (A.pre self.now.operands.assign) (A.post self.now.operands.assign) }
         requires statements { Nests the.statement self.now.operands.simple.room (S.pre self.now.statement) (S.post self.now.statement) }
-        ensures { Reads (symbol self.now.operands.simple.room the.accept tokens.old) result tokens.new }
+        ensures read { Reads (symbol self.now.operands.simple.room the.accept tokens.old) result tokens.new }
     {
         let accept = self.accept(tokens)?;
         Ok(Boxed::new(self.operands.simple.alloc, accept)?)

@@ -49,11 +49,12 @@ impl<
         Ok(found)
     }
 
+    /// Reads entries up to the end of their block.
     #[tactic(auto, using(crate::proofs::Expand::entries_is))]
     pub fn entries(&self, tokens: &mut Cursor<'_>) -> Result<Items<Entry>, Stop>
         requires assigns { Nests the.assign self.now.operands.simple.room (A.pre self.now.operands.assign) (A.post self.now.operands.assign) }
         requires statements { Nests the.statement self.now.operands.simple.room (S.pre self.now.statement) (S.post self.now.statement) }
-        ensures { Reads (symbol self.now.operands.simple.room the.entries tokens.old) result tokens.new }
+        ensures read { Reads (symbol self.now.operands.simple.room the.entries tokens.old) result tokens.new }
     {
         self.entry_list(tokens)
     }
@@ -69,11 +70,12 @@ impl<
         Ok(entries)
     }
 
+    /// Reads a block in braces.
     #[tactic(auto, using(crate::proofs::Expand::block_is))]
     pub fn block(&self, tokens: &mut Cursor<'_>) -> Result<Items<Entry>, Stop>
         requires assigns { Nests the.assign self.now.operands.simple.room (A.pre self.now.operands.assign) (A.post self.now.operands.assign) }
         requires statements { Nests the.statement self.now.operands.simple.room (S.pre self.now.statement) (S.post self.now.statement) }
-        ensures { Reads (symbol self.now.operands.simple.room the.block tokens.old) result tokens.new }
+        ensures read { Reads (symbol self.now.operands.simple.room the.block tokens.old) result tokens.new }
     {
         tokens.expect(sign(Mark::OpenBrace))?;
         self.closed_entries(tokens)

@@ -130,11 +130,12 @@ impl<
         })
     }
 
+    /// Reads `if`, `while`, `do` or `for`.
     #[tactic(auto, using(crate::proofs::Expand::control_statement_is))]
     pub fn control_statement(&self, tokens: &mut Cursor<'_>) -> Result<Statement, Stop>
         requires assigns { Nests the.assign self.now.operands.simple.room (A.pre self.now.operands.assign) (A.post self.now.operands.assign) }
         requires statements { Nests the.statement self.now.operands.simple.room (S.pre self.now.statement) (S.post self.now.statement) }
-        ensures { Reads (symbol self.now.operands.simple.room the.control_statement tokens.old) result tokens.new }
+        ensures read { Reads (symbol self.now.operands.simple.room the.control_statement tokens.old) result tokens.new }
     {
         if tokens.sees(key(Word::If)) {
             self.if_statement(tokens)

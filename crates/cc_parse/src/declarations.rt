@@ -45,9 +45,10 @@ impl Declarations {
         }
     }
 
+    /// Reads `void` or a type of numbers.
     #[tactic(auto, using(crate::proofs::Expand::simple_type_is))]
     pub fn simple_type(&self, tokens: &mut Cursor<'_>) -> Result<TypeName, Stop>
-        ensures { Reads (symbol self.now.simple.room the.simple_type tokens.old) result tokens.new }
+        ensures read { Reads (symbol self.now.simple.room the.simple_type tokens.old) result tokens.new }
     {
         if tokens.sees(key(Word::Void)) {
             let place = tokens.expect(key(Word::Void))?.place;
@@ -76,9 +77,10 @@ impl Declarations {
         }
     }
 
+    /// Reads a type.
     #[tactic(auto, using(crate::proofs::Expand::type_is))]
     pub fn type_name(&self, tokens: &mut Cursor<'_>) -> Result<TypeName, Stop>
-        ensures { Reads (symbol self.now.simple.room the.type tokens.old) result tokens.new }
+        ensures read { Reads (symbol self.now.simple.room the.type tokens.old) result tokens.new }
     {
         if tokens.at(&[
             key(Word::Void),
@@ -117,9 +119,10 @@ impl Declarations {
         }
     }
 
+    /// Reads the length of an array, in brackets.
     #[tactic(auto, using(crate::proofs::Expand::array_length_is))]
     pub fn array_length(&self, tokens: &mut Cursor<'_>) -> Result<Length, Stop>
-        ensures { Reads (symbol self.now.simple.room the.array_length tokens.old) result tokens.new }
+        ensures read { Reads (symbol self.now.simple.room the.array_length tokens.old) result tokens.new }
     {
         tokens.expect(sign(Mark::OpenBracket))?;
         let length = self.length(tokens)?;
@@ -202,9 +205,10 @@ impl Declarations {
         Ok(before(self.simple.alloc, first, others)?)
     }
 
+    /// Reads the constants of an enumeration, in braces, and `;`.
     #[tactic(auto, using(crate::proofs::Expand::constants_is))]
     pub fn constants(&self, tokens: &mut Cursor<'_>) -> Result<Items<Constant>, Stop>
-        ensures { Reads (symbol self.now.simple.room the.constants tokens.old) result tokens.new }
+        ensures read { Reads (symbol self.now.simple.room the.constants tokens.old) result tokens.new }
     {
         tokens.expect(sign(Mark::OpenBrace))?;
         let list = self.constant_list(tokens)?;
@@ -293,9 +297,10 @@ impl Declarations {
         Ok(before(self.simple.alloc, first, others)?)
     }
 
+    /// Reads the fields of a structure, in braces, and `;`.
     #[tactic(auto, using(crate::proofs::Expand::fields_is))]
     pub fn fields(&self, tokens: &mut Cursor<'_>) -> Result<Items<Field>, Stop>
-        ensures { Reads (symbol self.now.simple.room the.fields tokens.old) result tokens.new }
+        ensures read { Reads (symbol self.now.simple.room the.fields tokens.old) result tokens.new }
     {
         tokens.expect(sign(Mark::OpenBrace))?;
         let list = self.field_list(tokens)?;
@@ -364,9 +369,10 @@ impl Declarations {
         }
     }
 
+    /// Reads the parameters of a transaction or of a process type, in parentheses.
     #[tactic(auto, using(crate::proofs::Expand::signature_is))]
     pub fn signature(&self, tokens: &mut Cursor<'_>) -> Result<Items<TransactionParameter>, Stop>
-        ensures { Reads (symbol self.now.simple.room the.signature tokens.old) result tokens.new }
+        ensures read { Reads (symbol self.now.simple.room the.signature tokens.old) result tokens.new }
     {
         tokens.expect(sign(Mark::OpenParenthesis))?;
         let parameters = self.transaction_parameters(tokens)?;
@@ -438,12 +444,13 @@ impl Declarations {
         Ok(list)
     }
 
+    /// Reads the transactions of a specification, if there are any, and its end.
     #[tactic(auto, using(crate::proofs::Expand::specification_end_is))]
     pub fn specification_end(
         &self,
         tokens: &mut Cursor<'_>,
     ) -> Result<Option<Items<Transaction>>, Stop>
-        ensures { Reads (symbol self.now.simple.room the.specification_end tokens.old) result tokens.new }
+        ensures read { Reads (symbol self.now.simple.room the.specification_end tokens.old) result tokens.new }
     {
         if tokens.sees(sign(Mark::OpenBrace)) {
             let list = self.transactions(tokens)?;
@@ -535,9 +542,10 @@ impl Declarations {
         }
     }
 
+    /// Reads the parameters of a function, in parentheses.
     #[tactic(auto, using(crate::proofs::Expand::parameter_list_is))]
     pub fn parameter_list(&self, tokens: &mut Cursor<'_>) -> Result<Items<Parameter>, Stop>
-        ensures { Reads (symbol self.now.simple.room the.parameter_list tokens.old) result tokens.new }
+        ensures read { Reads (symbol self.now.simple.room the.parameter_list tokens.old) result tokens.new }
     {
         tokens.expect(sign(Mark::OpenParenthesis))?;
         let parameters = self.parameters(tokens)?;
@@ -588,9 +596,10 @@ impl Declarations {
         }
     }
 
+    /// Reads the names of a body, in parentheses.
     #[tactic(auto, using(crate::proofs::Expand::parameter_names_is))]
     pub fn parameter_names(&self, tokens: &mut Cursor<'_>) -> Result<Items<Identifier>, Stop>
-        ensures { Reads (symbol self.now.simple.room the.parameter_names tokens.old) result tokens.new }
+        ensures read { Reads (symbol self.now.simple.room the.parameter_names tokens.old) result tokens.new }
     {
         tokens.expect(sign(Mark::OpenParenthesis))?;
         let names = self.optional_names(tokens)?;

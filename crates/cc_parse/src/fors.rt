@@ -77,11 +77,12 @@ impl<
         Ok((header, body))
     }
 
+    /// Reads a `for`.
     #[tactic(auto, using(crate::proofs::Expand::for_statement_is))]
     pub fn for_statement(&self, tokens: &mut Cursor<'_>) -> Result<Statement, Stop>
         requires assigns { Nests the.assign self.now.operands.simple.room (A.pre self.now.operands.assign) (A.post self.now.operands.assign) }
         requires statements { Nests the.statement self.now.operands.simple.room (S.pre self.now.statement) (S.post self.now.statement) }
-        ensures { Reads (symbol self.now.operands.simple.room the.for_statement tokens.old) result tokens.new }
+        ensures read { Reads (symbol self.now.operands.simple.room the.for_statement tokens.old) result tokens.new }
     {
         let place = tokens.expect(key(Word::For))?.place;
         let (header, body) = self.for_loop(tokens)?;

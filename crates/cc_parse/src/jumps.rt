@@ -53,10 +53,11 @@ impl<
         Ok(Statement::Treturn(place, value))
     }
 
+    /// Reads `break`, `continue`, `return` or `treturn`.
     #[tactic(auto, using(crate::proofs::Expand::jump_statement_is))]
     pub fn jump_statement(&self, tokens: &mut Cursor<'_>) -> Result<Statement, Stop>
         requires assigns { Nests the.assign self.now.operands.simple.room (A.pre self.now.operands.assign) (A.post self.now.operands.assign) }
-        ensures { Reads (symbol self.now.operands.simple.room the.jump_statement tokens.old) result tokens.new }
+        ensures read { Reads (symbol self.now.operands.simple.room the.jump_statement tokens.old) result tokens.new }
     {
         if tokens.sees(key(Word::Break)) {
             self.break_statement(tokens)
@@ -69,10 +70,11 @@ impl<
         }
     }
 
+    /// Reads a `delay`.
     #[tactic(auto, using(crate::proofs::Expand::delay_statement_is))]
     pub fn delay_statement(&self, tokens: &mut Cursor<'_>) -> Result<Statement, Stop>
         requires assigns { Nests the.assign self.now.operands.simple.room (A.pre self.now.operands.assign) (A.post self.now.operands.assign) }
-        ensures { Reads (symbol self.now.operands.simple.room the.delay_statement tokens.old) result tokens.new }
+        ensures read { Reads (symbol self.now.operands.simple.room the.delay_statement tokens.old) result tokens.new }
     {
         let place = tokens.expect(key(Word::Delay))?.place;
         let wait = self.ended_assign(tokens)?;

@@ -97,10 +97,11 @@ impl<
         Ok(declarators)
     }
 
+    /// Reads the declaration of local variables.
     #[tactic(auto, using(crate::proofs::Expand::local_is))]
     pub fn local(&self, tokens: &mut Cursor<'_>) -> Result<Local, Stop>
         requires assigns { Nests the.assign self.now.operands.simple.room (A.pre self.now.operands.assign) (A.post self.now.operands.assign) }
-        ensures { Reads (symbol self.now.operands.simple.room the.local tokens.old) result tokens.new }
+        ensures read { Reads (symbol self.now.operands.simple.room the.local tokens.old) result tokens.new }
     {
         let of = self.declarations().type_name(tokens)?;
         let declarators = self.ended_local_declarators(tokens)?;

@@ -11,7 +11,7 @@ use std::alloc::Global;
 
 /// An expression.
 pub fn assign(alloc: Global, tokens: &mut Cursor<'_>, room: usize) -> Result<Expression, Stop>
-    ensures { Reads (level room the.assign tokens.old) result tokens.new }
+    ensures read { Reads (level room the.assign tokens.old) result tokens.new }
 {
     cc_expressions::assign(alloc, tokens, room)
 }
@@ -19,7 +19,7 @@ pub fn assign(alloc: Global, tokens: &mut Cursor<'_>, room: usize) -> Result<Exp
 /// A statement.
 #[cycle(statements)]
 pub fn statement(alloc: Global, tokens: &mut Cursor<'_>, room: usize) -> Result<Statement, Stop>
-    ensures { Reads (level room the.statement tokens.old) result tokens.new }
+    ensures read { Reads (level room the.statement tokens.old) result tokens.new }
 {
     if room == 0 {
         return Err(refused(begins_statement(tokens)));

@@ -189,11 +189,12 @@ impl<
         Ok(alternatives)
     }
 
+    /// Reads a `select`.
     #[tactic(auto, using(crate::proofs::Expand::select_statement_is))]
     pub fn select_statement(&self, tokens: &mut Cursor<'_>) -> Result<Statement, Stop>
         requires assigns { Nests the.assign self.now.operands.simple.room (A.pre self.now.operands.assign) (A.post self.now.operands.assign) }
         requires statements { Nests the.statement self.now.operands.simple.room (S.pre self.now.statement) (S.post self.now.statement) }
-        ensures { Reads (symbol self.now.operands.simple.room the.select_statement tokens.old) result tokens.new }
+        ensures read { Reads (symbol self.now.operands.simple.room the.select_statement tokens.old) result tokens.new }
     {
         let place = tokens.expect(key(Word::Select))?.place;
         tokens.expect(sign(Mark::OpenBrace))?;

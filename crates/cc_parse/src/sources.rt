@@ -202,9 +202,10 @@ impl Sources {
         Ok(found)
     }
 
+    /// Reads a whole text.
     #[tactic(auto, using(crate::proofs::Expand::text_is))]
     pub fn text(&self, tokens: &mut Cursor<'_>) -> Result<Tree, Stop>
-        ensures { Reads (symbol self.now.simple.room the.text tokens.old) result tokens.new }
+        ensures read { Reads (symbol self.now.simple.room the.text tokens.old) result tokens.new }
     {
         let items = self.items(tokens)?;
         Ok(Tree { items })

@@ -28,24 +28,27 @@ impl<
     A: Fn(Global, &mut Cursor<'_>, usize) -> Result<Expression, Stop>,
     S: Fn(Global, &mut Cursor<'_>, usize) -> Result<Statement, Stop>,
 > Statements<A, S> {
+    /// The readers of declarations, over the same tokens.
     pub fn declarations(&self) -> Declarations
-        ensures { result.simple ≡ self.now.operands.simple }
+        ensures simple { result.simple ≡ self.now.operands.simple }
     {
         Declarations {
             simple: self.operands.simple,
         }
     }
 
+    /// Reads an expression one level deeper.
     pub fn nested_assign(&self, tokens: &mut Cursor<'_>) -> Result<Expression, Stop>
         requires assigns { Nests the.assign self.now.operands.simple.room (A.pre self.now.operands.assign) (A.post self.now.operands.assign) }
-        ensures { Reads (level self.now.operands.simple.room the.assign tokens.old) result tokens.new }
+        ensures read { Reads (level self.now.operands.simple.room the.assign tokens.old) result tokens.new }
     {
         self.operands.nested_assign(tokens)
     }
 
+    /// Reads a statement one level deeper.
     pub fn nested_statement(&self, tokens: &mut Cursor<'_>) -> Result<Statement, Stop>
         requires statements { Nests the.statement self.now.operands.simple.room (S.pre self.now.statement) (S.post self.now.statement) }
-        ensures { Reads (level self.now.operands.simple.room the.statement tokens.old) result tokens.new }
+        ensures read { Reads (level self.now.operands.simple.room the.statement tokens.old) result tokens.new }
     {
         (self.statement)(
             self.operands.simple.alloc,
@@ -57,26 +60,28 @@ impl<
     /// The same in a box.
     pub fn boxed_statement(&self, tokens: &mut Cursor<'_>) -> Result<Boxed<Statement>, Stop>
         requires statements { Nests the.statement self.now.operands.simple.room (S.pre self.now.statement) (S.post self.now.statement) }
-        ensures { Reads (level self.now.operands.simple.room the.statement tokens.old) result tokens.new }
+        ensures read { Reads (level self.now.operands.simple.room the.statement tokens.old) result tokens.new }
     {
         let statement = self.nested_statement(tokens)?;
         Ok(Boxed::new(self.operands.simple.alloc, statement)?)
     }
 
+    /// Reads an expression and `;`.
     #[tactic(auto, using(crate::proofs::Expand::ended_assign_is))]
     pub fn ended_assign(&self, tokens: &mut Cursor<'_>) -> Result<Expression, Stop>
         requires assigns { Nests the.assign self.now.operands.simple.room (A.pre self.now.operands.assign) (A.post self.now.operands.assign) }
-        ensures { Reads (symbol self.now.operands.simple.room the.ended_assign tokens.old) result tokens.new }
+        ensures read { Reads (symbol self.now.operands.simple.room the.ended_assign tokens.old) result tokens.new }
     {
         let value = self.nested_assign(tokens)?;
         tokens.expect(sign(Mark::Semicolon))?;
         Ok(value)
     }
 
+    /// Reads an expression, if there is one, and `;`.
     #[tactic(auto, using(crate::proofs::Expand::ended_optional_assign_is))]
     pub fn ended_optional_assign(&self, tokens: &mut Cursor<'_>) -> Result<Option<Expression>, Stop>
         requires assigns { Nests the.assign self.now.operands.simple.room (A.pre self.now.operands.assign) (A.post self.now.operands.assign) }
-        ensures { Reads (symbol self.now.operands.simple.room the.ended_optional_assign tokens.old) result tokens.new }
+        ensures read { Reads (symbol self.now.operands.simple.room the.ended_optional_assign tokens.old) result tokens.new }
     {
         let value = self.operands.optional_assign(tokens)?;
         tokens.expect(sign(Mark::Semicolon))?;
@@ -108,11 +113,12 @@ impl<
         }
     }
 
+    /// Reads a statement.
     #[tactic(auto, using(crate::proofs::Expand::statement_is))]
     pub fn statement(&self, tokens: &mut Cursor<'_>) -> Result<Statement, Stop>
         requires assigns { Nests the.assign self.now.operands.simple.room (A.pre self.now.operands.assign) (A.post self.now.operands.assign) }
         requires statements { Nests the.statement self.now.operands.simple.room (S.pre self.now.statement) (S.post self.now.statement) }
-        ensures { Reads (symbol self.now.operands.simple.room the.statement tokens.old) result tokens.new }
+        ensures read { Reads (symbol self.now.operands.simple.room the.statement tokens.old) result tokens.new }
     {
         if tokens.sees(sign(Mark::Semicolon)) {
             let place = tokens.expect(sign(Mark::Semicolon))?.place;

@@ -7,12 +7,12 @@ ghost use Rattle.cc_trace.specs.Text.{FirstBadLine, IsTextOf, IsWithinBounds, jo
 
 /// Different journals have different texts.
 pub fn different_texts()
-    ensures { (a b : List Event) → AllByRecursion IsWithinBounds a → AllByRecursion IsWithinBounds b → journal_text a ≡ journal_text b → a ≡ b }
+    ensures different { (a b : List Event) → AllByRecursion IsWithinBounds a → AllByRecursion IsWithinBounds b → journal_text a ≡ journal_text b → a ≡ b }
 {}
 
 /// The only newline of an event's line is its last byte, so events are lines.
 pub fn lines_end_at_newlines()
-    ensures { (event : Event) → IsWithinBounds event → (front : List ℕ) × (line event ≡ front ++ 10 ∷ []) × AllByRecursion (λ b. b ≢ 10) front }
+    ensures newline { (event : Event) → IsWithinBounds event → (front : List ℕ) × (line event ≡ front ++ 10 ∷ []) × AllByRecursion (λ b. b ≢ 10) front }
 {}
 
 /// A text has one first bad line at most, and none where it is the text of a journal.
@@ -23,5 +23,5 @@ pub fn one_bad_line()
 
 /// Each text is that of a journal or has a first bad line.
 pub fn each_text_is_read()
-    ensures { (text : List ℕ) → ((events : List Event) × IsTextOf text events) ⊎ ((n : ℕ) × FirstBadLine text n) }
+    ensures read { (text : List ℕ) → ((events : List Event) × IsTextOf text events) ⊎ ((n : ℕ) × FirstBadLine text n) }
 {}

@@ -46,7 +46,7 @@ pub const WORDS: [(&str, Word); 12] = [
 
 /// The item of the first row whose name stands at the front of the text, and the text after that name.
 pub fn row_at<'a, T: Copy>(table: &[(&str, T)], text: &'a [u8]) -> Option<(T, &'a [u8])>
-    ensures { option_map (λ found. (found.0, found.1.now)) result ≡ row_at (rows table.now) text.now }
+    ensures row { option_map (λ found. (found.0, found.1.now)) result ≡ row_at (rows table.now) text.now }
 {
     for (name, item) in table {
         if let Some(rest) = text.strip_prefix(name.as_bytes()) {

@@ -45,7 +45,7 @@ fn digits_after(most: u64, end: u8, number: u64, text: &[u8]) -> Option<(u64, &[
 
 /// The number of a process, an alternative or a call.
 pub fn small_at(end: u8, text: &[u8]) -> Option<(u32, &[u8])>
-    ensures { option_map (λ found. (found.0, found.1.now)) result ≡ reading.small_at end text.now }
+    ensures number { option_map (λ found. (found.0, found.1.now)) result ≡ reading.small_at end text.now }
 {
     let (number, rest) = number_at(u64::from(u32::MAX), end, text)?;
     Some((number as u32, rest))

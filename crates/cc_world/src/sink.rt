@@ -12,7 +12,7 @@ pub trait Sink {
     /// A count that never falls, and rises where a call fails.
     ghost faults: { Self → ℕ };
 
-    /// A count that never falls, and rises where memory was wanting.
+    /// A count that never falls, and rises where a call is out of memory.
     ghost wants: { Self → ℕ };
 
     /// Appends the first bytes of `bytes`, at least one, and answers how many. It is `Failed` only where `faults`

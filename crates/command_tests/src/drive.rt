@@ -1,6 +1,3 @@
-ghost use Rattle.cc_kernel.specs.Performed.{AsksPerformed};
-ghost use Rattle.std.specs.Prelude.{◌≡◌};
-
 use cc_base::{Behave, Bytes, CallId, Cells, FaultKind, Memory, Pid};
 use cc_kernel::Kernel;
 use cc_pool::{Driven, Stop, drive};
@@ -335,10 +332,7 @@ fn slice<B: Behave>(
     kernel: &mut Kernel<B>,
     alloc: Global,
     printed: &mut Bytes,
-) -> Result<Option<Pid>, Memory>
-    requires performed { AsksPerformed (B.means kernel.old.code) }
-    ensures code { kernel.new.code ≡ kernel.old.code }
-{
+) -> Result<Option<Pid>, Memory> {
     let Some((pid, mut process, grant)) = kernel.pick() else {
         return Ok(None);
     };
@@ -355,9 +349,7 @@ fn go_on<B: Behave>(
     alloc: Global,
     printed: &mut Bytes,
     pids: &[u32],
-) -> Result<bool, Memory>
-    requires performed { AsksPerformed (B.means kernel.old.code) }
-{
+) -> Result<bool, Memory> {
     for pid in pids {
         if slice(kernel, alloc, printed)? != Some(Pid(*pid)) {
             return Ok(false);

@@ -2,4 +2,4 @@ use Rattle.cc_command.proofs.Meanings as meanings
 use Rattle.cc_command.proofs.laws.one_program.Goals as goal
 
 pub returns : goal.returns
-returns c = meanings.one_program
+returns c = record { same = meanings.one_program }

@@ -2,4 +2,4 @@ use Rattle.cc_grammar.proofs.Parsed as parsed
 use Rattle.cc_grammar.proofs.laws.one_tree.Goals as goal
 
 pub returns : goal.returns
-returns c = parsed.one_tree
+returns c = record { one = parsed.one_tree }

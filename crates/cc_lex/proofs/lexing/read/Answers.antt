@@ -43,4 +43,4 @@ returns c =
     let ended : Reads place c.loop-rest.rest.now [] place Whole = subst (λ (t : List ℕ). Reads place t [] place Whole) (sym empty) whole in
     let read : Reads start text c.loop-rest.tokens.tokens place Whole =
     subst (λ (ts : List Token). Reads start text ts place Whole) (append-nil c.loop-rest.tokens.tokens) (c.loop-rest.invariant.completes [] place Whole ended) in
-    (c.requires, subst (λ (list : TokenList). Spells text list) (sym c.set_end.ensures) read)
+    (c.requires, subst (λ (list : TokenList). Spells text list) (sym c.set_end.ensures.end) read)

@@ -11,8 +11,8 @@ returns-then-value-digit-clause-value c =
     let digits = c.args.digits.now in
     let i = c.loop-d.d-index in
     let digit : ℕ = spec.digit_of (get_or digits i 0) in
-    let is : c.digit_of-digit.result ≡ digit = c.digit_of-digit.ensures in
-    let large : greatest_number < c.loop-d.value * base + digit = too_large base digit c.loop-d.value c.requires.positive (digit_of-le (get_or digits i 0)) (rw c.digit_of-digit.ensures at c.if-value-digit.true) in
+    let is : c.digit_of-digit.result ≡ digit = c.digit_of-digit.ensures.digit in
+    let large : greatest_number < c.loop-d.value * base + digit = too_large base digit c.loop-d.value c.requires.positive (digit_of-le (get_or digits i 0)) (rw c.digit_of-digit.ensures.digit at c.if-value-digit.true) in
     let step : spec.value_of base digits ≡ spec.value_after base (c.loop-d.value * base + digit) (drop (i + 1) digits) =
     c.loop-d.invariant.so_far ∙ at_drop_more (spec.value_after base c.loop-d.value) digits i 0 (omega arith) in
     sym (bounded-large (spec.value_of base digits) (omega (arith, value_after-grows base c.requires.positive (c.loop-d.value * base + digit) (drop (i + 1) digits))))

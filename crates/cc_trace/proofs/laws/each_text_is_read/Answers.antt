@@ -2,4 +2,4 @@ use Rattle.cc_trace.proofs.Texts as texts
 use Rattle.cc_trace.proofs.laws.each_text_is_read.Goals as goal
 
 pub returns : goal.returns
-returns c = texts.text_of_or_bad
+returns c = record { read = texts.text_of_or_bad }

@@ -2,4 +2,4 @@ use Rattle.cc_trace.proofs.Newlines as newlines
 use Rattle.cc_trace.proofs.laws.lines_end_at_newlines.Goals as goal
 
 pub returns : goal.returns
-returns c = newlines.line_ends
+returns c = record { newline = newlines.line_ends }

@@ -7,7 +7,7 @@ returns-in-Some g c =
     let item = c.loop-name-item.result in
     let text = c.args.text.now in
     let found = stripped text c.as_bytes.result.now c.strip_prefix.result c.in-Some.rest c.strip_prefix.ensures.cases c.in-Some.is in
-    sym (c.loop-name.invariant ∙ row_found c.args.table.now c.loop-name.name-index item text c.in-Some.rest.now (omega arith) c.loop-name-item.is (found ∙ ap (λ name. name ++ c.in-Some.rest.now) c.as_bytes.ensures.value))
+    record { row = sym (c.loop-name.invariant ∙ row_found c.args.table.now c.loop-name.name-index item text c.in-Some.rest.now (omega arith) c.loop-name-item.is (found ∙ ap (λ name. name ++ c.in-Some.rest.now) c.as_bytes.ensures.value)) }
 
 pub loop-name-preserved : goal.loop-name-preserved
 loop-name-preserved g c =

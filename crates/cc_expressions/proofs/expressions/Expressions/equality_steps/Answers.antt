@@ -9,7 +9,7 @@ use Rattle.cc_expressions.proofs.expressions.Expressions.equality_steps.Goals as
 pub loop-turn-init : goal.loop-turn-init
 loop-turn-init g c =
     rw c.new-found.ensures
-    (begun (symbol c.args.self.now.operands.simple.room the.equality_step) (mark_kind mark.Equal ∷ mark_kind mark.NotEqual ∷ []) (length c.args.tokens.now) c.left-turn-end.result c.args.tokens.now (sym c.left-turn-end.ensures))
+    (begun (symbol c.args.self.now.operands.simple.room the.equality_step) (mark_kind mark.Equal ∷ mark_kind mark.NotEqual ∷ []) (length c.args.tokens.now) c.left-turn-end.result c.args.tokens.now (sym c.left-turn-end.ensures.left))
 
 pub loop-turn-preserved : goal.loop-turn-preserved
 loop-turn-preserved g c =

@@ -9,7 +9,7 @@ use Rattle.cc_expressions.proofs.expressions.Expressions.next_equalities.Goals a
 pub loop-turn-init : goal.loop-turn-init
 loop-turn-init g c =
     rw c.new-found.ensures
-    (begun (symbol c.args.self.now.operands.simple.room the.next_equality) (mark_kind mark.And ∷ []) (length c.args.tokens.now) c.left-turn-end.result c.args.tokens.now (sym c.left-turn-end.ensures))
+    (begun (symbol c.args.self.now.operands.simple.room the.next_equality) (mark_kind mark.And ∷ []) (length c.args.tokens.now) c.left-turn-end.result c.args.tokens.now (sym c.left-turn-end.ensures.left))
 
 pub loop-turn-preserved : goal.loop-turn-preserved
 loop-turn-preserved g c =

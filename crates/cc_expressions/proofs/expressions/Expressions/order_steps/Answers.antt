@@ -9,7 +9,7 @@ use Rattle.cc_expressions.proofs.expressions.Expressions.order_steps.Goals as go
 pub loop-turn-init : goal.loop-turn-init
 loop-turn-init g c =
     rw c.new-found.ensures
-    (begun (symbol c.args.self.now.operands.simple.room the.order_step) (mark_kind mark.Less ∷ mark_kind mark.LessEqual ∷ mark_kind mark.Greater ∷ mark_kind mark.GreaterEqual ∷ []) (length c.args.tokens.now) c.left-turn-end.result c.args.tokens.now (sym c.left-turn-end.ensures))
+    (begun (symbol c.args.self.now.operands.simple.room the.order_step) (mark_kind mark.Less ∷ mark_kind mark.LessEqual ∷ mark_kind mark.Greater ∷ mark_kind mark.GreaterEqual ∷ []) (length c.args.tokens.now) c.left-turn-end.result c.args.tokens.now (sym c.left-turn-end.ensures.left))
 
 pub loop-turn-preserved : goal.loop-turn-preserved
 loop-turn-preserved g c =

@@ -9,7 +9,7 @@ use Rattle.cc_expressions.proofs.operands.Operands.next_arguments.Goals as goal
 pub loop-turn-init : goal.loop-turn-init
 loop-turn-init g c =
     rw c.new-found.ensures
-    (begun (symbol c.args.self.now.simple.room the.next_argument) (mark_kind mark.Comma ∷ []) (length c.args.tokens.now) c.left-turn-end.result c.args.tokens.now (sym c.left-turn-end.ensures))
+    (begun (symbol c.args.self.now.simple.room the.next_argument) (mark_kind mark.Comma ∷ []) (length c.args.tokens.now) c.left-turn-end.result c.args.tokens.now (sym c.left-turn-end.ensures.left))
 
 pub loop-turn-preserved : goal.loop-turn-preserved
 loop-turn-preserved g c =

@@ -9,7 +9,7 @@ use Rattle.cc_expressions.proofs.operands.Operands.steps.Goals as goal
 pub loop-turn-init : goal.loop-turn-init
 loop-turn-init g c =
     rw c.new-found.ensures
-    (begun (symbol c.args.self.now.simple.room the.step) (mark_kind mark.Dot ∷ mark_kind mark.OpenBracket ∷ []) (length c.args.tokens.now) c.left-turn-end.result c.args.tokens.now (sym c.left-turn-end.ensures))
+    (begun (symbol c.args.self.now.simple.room the.step) (mark_kind mark.Dot ∷ mark_kind mark.OpenBracket ∷ []) (length c.args.tokens.now) c.left-turn-end.result c.args.tokens.now (sym c.left-turn-end.ensures.left))
 
 pub loop-turn-preserved : goal.loop-turn-preserved
 loop-turn-preserved g c =

@@ -9,7 +9,7 @@ use Rattle.cc_parse.proofs.declarations.Declarations.next_parameters.Goals as go
 pub loop-turn-init : goal.loop-turn-init
 loop-turn-init c =
     rw c.new-found.ensures
-    (begun (symbol c.args.self.now.simple.room the.next_parameter) (mark_kind mark.Comma ∷ []) (length c.args.tokens.now) c.left-turn-end.result c.args.tokens.now (sym c.left-turn-end.ensures))
+    (begun (symbol c.args.self.now.simple.room the.next_parameter) (mark_kind mark.Comma ∷ []) (length c.args.tokens.now) c.left-turn-end.result c.args.tokens.now (sym c.left-turn-end.ensures.left))
 
 pub loop-turn-preserved : goal.loop-turn-preserved
 loop-turn-preserved c =

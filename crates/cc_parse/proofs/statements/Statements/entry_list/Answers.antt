@@ -10,7 +10,7 @@ use Rattle.cc_parse.proofs.statements.Statements.entry_list.Goals as goal
 pub loop-turn-init : goal.loop-turn-init
 loop-turn-init g c =
     rw c.new-found.ensures
-    (begun (symbol c.args.self.now.operands.simple.room the.entry) entry_starts (length c.args.tokens.now) c.left-turn-end.result c.args.tokens.now (sym c.left-turn-end.ensures))
+    (begun (symbol c.args.self.now.operands.simple.room the.entry) entry_starts (length c.args.tokens.now) c.left-turn-end.result c.args.tokens.now (sym c.left-turn-end.ensures.left))
 
 pub loop-turn-preserved : goal.loop-turn-preserved
 loop-turn-preserved g c =
