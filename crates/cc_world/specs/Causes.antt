@@ -1,5 +1,5 @@
 -- When a call of an outside object may fail.
-use Rattle.std.specs.Prelude.{◌≡◌, ◌≤◌, ◌+◌, ◌-◌, ◌^◌, ℕ, min, Result, IsErrOf}
+use Rattle.std.specs.Prelude.{◌≡◌, ◌≤◌, ◌+◌, ◌-◌, ◌^◌, ◌⊎◌, ℕ, min, Result, IsErrOf}
 use Rattle.cc_world.specs.declared.fault.IoFault.{IoFault}
 use Rattle.cc_world.specs.declared.fault.IoFault.TheVariants.{Failed, Memory}
 
@@ -17,9 +17,9 @@ pub record HasWant {T : Type 0} (before now : ℕ) (result : Result T IoFault) :
   pub later : before ≤ now
   pub memory : IsErrOf result Memory → Rose before now
 
--- want of memory leaves the count of faults as it was
-abbrev pub SparesAtMemory : {T : Type 0} → ℕ → ℕ → Result T IoFault → Type 0
-SparesAtMemory before now result = IsErrOf result Memory → now ≡ before
+-- the answer is Failed, or the count of faults is as it was
+abbrev pub StaysUnlessFailed : {T : Type 0} → ℕ → ℕ → Result T IoFault → Type 0
+StaysUnlessFailed before now result = IsErrOf result Failed ⊎ (now ≡ before)
 
 -- a u64's count of faults after a call with this answer, where each fault is counted and nothing else
 abbrev pub faults_after : {T : Type 0} → Result T IoFault → ℕ → ℕ

@@ -1,5 +1,6 @@
 -- What becomes of a meaning that an object may tell, as Some, or not.
-use Rattle.std.specs.Prelude.{◌≡◌, ◌≤◌, ◌<◌, ◌⊎◌, ℕ, List, [], ◌++◌, length, take, ⊤, Option, Some, None, Result, MatchResult, option_map}
+use Rattle.std.specs.Prelude.{◌≡◌, ◌≤◌, ◌<◌, ◌⊎◌, ℕ, Bool, true, false, List, [], ◌++◌, length, take, ⊤, Option, Some, None, Result, MatchResult, option_map}
+use Rattle.std.specs.Option.{is_some}
 use Rattle.cc_world.specs.Causes.{Rose}
 use Rattle.cc_world.specs.declared.fault.IoFault.{IoFault}
 
@@ -10,6 +11,16 @@ with_bytes known bytes = option_map (λ xs. xs ++ bytes) known
 -- these bytes, and then the known ones
 abbrev pub behind : List ℕ → Option (List ℕ) → Option (List ℕ)
 behind bytes known = option_map (λ xs. bytes ++ xs) known
+
+-- what an object tells of what is under it: nothing, where it doesn't tell
+abbrev pub told_if : Bool → Option (List ℕ) → Option (List ℕ)
+told_if false known = None
+told_if true known = known
+
+-- what is under it is known, where it tells
+abbrev pub is_told_if : Bool → Option (List ℕ) → Bool
+is_told_if false known = true
+is_told_if true known = is_some known
 
 -- nothing is left, where that is told
 abbrev pub IsAtEnd : Option (List ℕ) → Type 0

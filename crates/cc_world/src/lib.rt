@@ -18,6 +18,7 @@ mod shelf;
 mod sink;
 mod source;
 mod step_clock;
+mod streams;
 mod system;
 
 pub use clock::Clock;
@@ -30,4 +31,5 @@ pub use shelf::Shelf;
 pub use sink::{Sink, write_all};
 pub use source::Source;
 pub use step_clock::StepClock;
-pub use system::{DirShelf, RealClock, StdSink, StdSource};
+pub use streams::{StdSink, StdSource};
+pub use system::{DirShelf, RealClock};

@@ -1,6 +1,6 @@
 ghost use Rattle.std.specs.Prelude.{◌≡◌, ◌≤◌, ◌<◌, ◌↔◌, [], length, min, IfErr, IfOk, IsErr, IsErrOf, None, Some};
 ghost use Rattle.cc_world.specs.Calls.{counted, FailsNext, none_made};
-ghost use Rattle.cc_world.specs.Causes.{faults_after, HasCause, HasWant, SparesAtMemory, wants_after};
+ghost use Rattle.cc_world.specs.Causes.{faults_after, HasCause, HasWant, StaysUnlessFailed, wants_after};
 ghost use Rattle.cc_world.specs.Told.{Puts, Takes};
 
 use crate::calls::Calls;
@@ -56,7 +56,7 @@ impl Source for MemSource {
         requires { 0 < length buf.old }
         ensures bytes { Takes (Some (bytes_left self.old)) (Some (bytes_left self.new)) result buf.new }
         ensures cause { HasCause (faults_of self.old) (faults_of self.new) result }
-        ensures spared { SparesAtMemory (faults_of self.old) (faults_of self.new) result }
+        ensures spared { StaysUnlessFailed (faults_of self.old) (faults_of self.new) result }
         ensures faults { faults_of self.new ≡ faults_after result (faults_of self.old) }
         ensures fails { IsErr result ↔ FailsNext (calls_of self.old) }
         ensures only { IfErr result (λ e. e ≡ IoFault.Failed) }
@@ -131,7 +131,7 @@ impl Sink for MemSink {
         requires { 0 < length bytes.now }
         ensures bytes { Puts (Some (bytes_held self.old)) (Some (bytes_held self.new)) result bytes.now }
         ensures cause { HasCause (faults_of self.old) (faults_of self.new) result }
-        ensures spared { SparesAtMemory (faults_of self.old) (faults_of self.new) result }
+        ensures spared { StaysUnlessFailed (faults_of self.old) (faults_of self.new) result }
         ensures want { HasWant (wants_of self.old) (wants_of self.new) result }
         ensures faults { faults_of self.new ≡ faults_after result (faults_of self.old) }
         ensures wants { wants_of self.new ≡ wants_after result (wants_of self.old) }

@@ -1,102 +1,15 @@
-ghost use Rattle.std.specs.Prelude.{◌≡◌, ◌≤◌, ◌<◌, [], length, IfErr, IfOk, None};
-ghost use Rattle.cc_world.specs.Causes.{HasCause, SparesAtMemory};
-ghost use Rattle.cc_world.specs.Told.{Takes};
+ghost use Rattle.std.specs.Prelude.{◌≡◌, ◌≤◌, [], length, IfOk, None};
 
 use crate::clock::Clock;
 use crate::fault::{IoFault, ShelfCall};
 use crate::misses::Misses;
 use crate::shelf::Shelf;
-use crate::sink::Sink;
-use crate::source::Source;
 use cc_base::Bytes;
 use std::alloc::Global;
-use std::io::{self, ErrorKind, Read, Write};
+use std::io::{self, ErrorKind, Read};
 use std::rt::Files;
 use std::time::{Duration, Instant};
 use std::{fs, thread};
-
-/// A source over any reader of the system. It does not tell its bytes, and each error counts as a fault.
-#[derive(Drop)]
-pub struct StdSource<R: Drop> {
-    reader: R,
-    faults: u64,
-}
-
-impl<R: Read + Drop> StdSource<R> {
-    ghost use Rattle.cc_world.specs.System.{source_faults};
-
-    /// A source with no faults so far.
-    pub fn new(reader: R) -> StdSource<R>
-        ensures { source_faults result ≡ 0 }
-    {
-        StdSource { reader, faults: 0 }
-    }
-}
-
-impl<R: Read + Drop> Source for StdSource<R> {
-    ghost use Rattle.cc_world.specs.System.{source_faults};
-    ghost use Rattle.std.specs.Prelude.{None};
-
-    ghost left = { λ _. None };
-
-    ghost faults = { λ s. source_faults s };
-
-    fn take(&mut self, buf: &mut [u8]) -> Result<usize, IoFault>
-        requires { 0 < length buf.old }
-        ensures bytes { Takes None None result buf.new }
-        ensures cause { HasCause (source_faults self.old) (source_faults self.new) result }
-        ensures spared { SparesAtMemory (source_faults self.old) (source_faults self.new) result }
-        ensures only { IfErr result (λ e. e ≡ IoFault.Failed) }
-    {
-        match self.reader.read(buf) {
-            Ok(count) => Ok(count),
-            Err(_) => {
-                self.faults = self.faults.saturating_add(1);
-                Err(IoFault::Failed)
-            }
-        }
-    }
-}
-
-/// A sink over any writer of the system. It does not tell its bytes. Each error counts as a fault, and so does a
-/// writer that takes nothing.
-#[derive(Drop)]
-pub struct StdSink<W: Drop> {
-    writer: W,
-    faults: u64,
-}
-
-impl<W: Write + Drop> StdSink<W> {
-    ghost use Rattle.cc_world.specs.System.{sink_faults};
-
-    /// A sink with no faults so far.
-    pub fn new(writer: W) -> StdSink<W>
-        ensures { sink_faults result ≡ 0 }
-    {
-        StdSink { writer, faults: 0 }
-    }
-}
-
-impl<W: Write + Drop> Sink for StdSink<W> {
-    ghost use Rattle.cc_world.specs.System.{sink_faults};
-    ghost use Rattle.std.specs.Prelude.{None};
-
-    ghost held = { λ _. None };
-
-    ghost faults = { λ s. sink_faults s };
-
-    ghost wants = { λ _. 0 };
-
-    fn put(&mut self, bytes: &[u8]) -> Result<usize, IoFault> {
-        match self.writer.write(bytes) {
-            Ok(count) if count > 0 => Ok(count),
-            _ => {
-                self.faults = self.faults.saturating_add(1);
-                Err(IoFault::Failed)
-            }
-        }
-    }
-}
 
 /// The files of the system, by their paths. It does not tell what they hold.
 #[derive(Drop)]
@@ -168,7 +81,7 @@ impl<R: Files + Drop> Shelf for DirShelf<R> {
     }
 }
 
-/// Want of memory where the system says so, and a fault otherwise.
+/// Out of memory where the system says so, and a fault otherwise.
 fn fault_of(error: io::Error) -> IoFault {
     if error.kind() == ErrorKind::OutOfMemory {
         IoFault::Memory

@@ -6,7 +6,7 @@ abbrev pub invariant-loop-done : goal.invariant-loop-done
 invariant-loop-done g l = record {
   in_range : l.done ≤ length l.bytes;
   held : g.K.Sink.held l.out ≡ with_bytes (g.K.Sink.held l.initial.out) (take l.done l.bytes);
-  faults : g.K.Sink.faults l.initial.out ≤ g.K.Sink.faults l.out;
+  faults : g.K.Sink.faults l.out ≡ g.K.Sink.faults l.initial.out;
   wants : g.K.Sink.wants l.initial.out ≤ g.K.Sink.wants l.out;
   idle : l.done ≡ 0 → l.out ≡ l.initial.out;
 }
