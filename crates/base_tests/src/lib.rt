@@ -7,4 +7,6 @@ mod arithmetic;
 #[cfg(test)]
 mod base;
 #[cfg(test)]
+mod edges;
+#[cfg(test)]
 mod world;

@@ -1,5 +1,5 @@
 -- How a run ends of the program of a text of `putchar` statements.
-use Rattle.std.proofs.Common.{◌≡◌, ℕ, ◌+◌, ◌≤◌, ◌<◌, inl, inr, true, false, not, ◌&&◌, Bool, Some, sym, List, [], length, Option, refl, ap, ◌∙◌, subst, arith}
+use Rattle.std.proofs.Common.{◌≡◌, ℕ, ◌+◌, ◌≤◌, ◌<◌, ◌⊎◌, inl, inr, true, false, not, ◌&&◌, Bool, Some, sym, List, [], length, Option, refl, ap, ◌∙◌, subst, arith}
 use Rattle.std.proofs.lemmas.Bool.Decides.{nat_tests}
 use Rattle.std.specs.List.{AllPass}
 use Rattle.std.specs.Prelude.{All, nat_eq, if◌then◌else◌}
@@ -21,6 +21,8 @@ use Rattle.cc_command.specs.declared.cause.Ending.TheVariants.{Well, Faulted, St
 use Rattle.cc_command.specs.declared.cause.Ending.TheVariants as the_end
 use Rattle.cc_pool.specs.Driven.{GoesToItsEnd, IsRunOf, is_untimed}
 use Rattle.cc_pool.specs.Driven as pool
+use Rattle.cc_pool.specs.declared.driven.Stop.{Stop}
+use Rattle.cc_pool.specs.declared.driven.Stop.TheVariants as stop
 use Rattle.cc_source.specs.Early.{early_meaning}
 use Rattle.cc_source.specs.Lawful.{early-is, early-means, early_form}
 use Rattle.cc_command.proofs.Shapes.{Steps, run-steps}
@@ -120,6 +122,11 @@ ended-well the_end.Spent stands faults so e =
     let both : Spent ≡ Ended false = sym so ∙ e in
     absurd cc
 
+-- what holds of a run that was cut short
+pub if_cut : {X : Type 0} (how cut : Stop) → how ≡ cut → ¬ (cut ≡ stop.Over) → (how ≡ stop.Over) ⊎ X → X
+if_cut how cut is short (inl over) = absurd (short (sym is ∙ over))
+if_cut how cut is short (inr x) = x
+
 module _ (text : List ℕ) (program : Parts) (means : MeansProgram text program) where
   typed : is_typed_program program ≡ true
   typed = ap is_typed_program means.built.same ∙ program-typed means.built.bytes means.built.form.in_range
@@ -177,5 +184,12 @@ module _ (text : List ℕ) (program : Parts) (means : MeansProgram text program)
           incomplete = incomplete;
         }
 
-    pub wants : pool.StopsForMemory (meaning program) [] journal held held_after → RunsUntilOutOfMemory program journal held held_after
-    wants part = record { run = allowed-run; prints = part }
+    pub out_of_memory : is_complete (state_after (meaning program) [] journal) ≡ false → pool.StopsForMemory (meaning program) [] journal held held_after → RunsUntilOutOfMemory program journal held held_after
+    out_of_memory incomplete cut =
+        record {
+          run = allowed-run;
+          part = cut.part;
+          prints = cut.prints;
+          stops = elim cut.stops [ | inl between ↦ inl between.all | inr within ↦ inr within ];
+          incomplete = incomplete;
+        }

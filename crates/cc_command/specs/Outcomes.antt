@@ -1,5 +1,5 @@
 -- What the command leaves, for each way in which it ends.
-use Rattle.std.specs.Prelude.{◌≡◌, ◌≤◌, ℕ, false, List, [], Option, Some, None, IfSome, option_map}
+use Rattle.std.specs.Prelude.{◌≡◌, ◌≤◌, ◌⊎◌, ℕ, false, List, [], Option, Some, None, IfSome, option_map}
 use Rattle.std.specs.FinMap as map
 use Rattle.cc_base.specs.declared.names.FaultKind.{FaultKind}
 use Rattle.cc_base.specs.declared.names.Pid.{Pid}
@@ -19,7 +19,7 @@ use Rattle.cc_rules.specs.declared.event.Event.{Event}
 use Rattle.cc_source.specs.Programs.{meaning}
 use Rattle.cc_typed.specs.Parts.{Parts}
 use Rattle.cc_world.specs.Shelf.{Files}
-use Rattle.cc_world.specs.Told.{GrewBy, GrewWithin}
+use Rattle.cc_world.specs.Told.{GrewBy}
 
 -- the file holds this text, where the shelf tells what it holds
 abbrev pub HoldsText : Option Files → List ℕ → List ℕ → Type 0
@@ -90,7 +90,11 @@ pub record RunsUntilThePrintFails (program : Parts) (journal : List Event) (held
   pub stops : StopsInPrint (meaning program) [] journal part
   pub incomplete : is_complete (state_after (meaning program) [] journal) ≡ false
 
--- the sink grew by a first part of what the run prints, or by all of that
+-- the run isn't complete, and the sink grew by exactly what it prints; or the last turn of the run is the Ask of a Print, and
+-- the sink grew by what all Prints before it print and by a proper first part of its own bytes
 pub record RunsUntilOutOfMemory (program : Parts) (journal : List Event) (held held_after : Option (List ℕ)) : Type 0 where
   pub run : IsAllowedRun program journal
-  pub prints : GrewWithin held held_after (printed (meaning program) [] journal)
+  pub part : List ℕ
+  pub prints : GrewBy held held_after part
+  pub stops : (part ≡ printed (meaning program) [] journal) ⊎ StopsInPrint (meaning program) [] journal part
+  pub incomplete : is_complete (state_after (meaning program) [] journal) ≡ false

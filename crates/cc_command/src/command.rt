@@ -28,7 +28,7 @@ use cc_world::{Clock, IoFault, Shelf, Sink, Source};
 use std::alloc::Global;
 use std::sync::Arc;
 
-/// The program, as those have it who run it.
+/// The program in an `Arc`, so that its processes can share it.
 fn shared(alloc: Global, program: Early) -> Result<Arc<Early>, Cause>
     ensures program { IfOk result (λ shared. shared.value ≡ program) }
     ensures only { IfErr result (λ cause. cause ≡ Cause.Memory) }
@@ -76,6 +76,7 @@ fn run_file<H: Shelf, K: Sink>(alloc: Global, words: &Words, shelf: &mut H, out:
     ensures memory { IsErrOf result.answer Cause.Memory → (result.journal.items ≡ []) × (K.held result.out ≡ K.held out)
         ⊎ IfSome (file_asked words.now) (λ file.
         HoldsProgram (H.files shelf.old) file (λ program. RunsUntilOutOfMemory program result.journal.items (K.held out) (K.held result.out))) }
+    ensures spared { IsErrOf result.answer Cause.Write ⊎ (K.faults result.out ≡ K.faults out) }
     ensures unbegun { IsRefused result.answer → result.journal.items ≡ [] }
     ensures untouched { IsRefused result.answer → result.out ≡ out }
     ensures untimed { AllPass is_untimed result.journal.items }
@@ -140,10 +141,12 @@ pub fn command_one<H: Shelf, S: Source, K: Sink, E: Sink, C: Clock>(
 
     // 8: only where the output's count rose. The run was cut short in a Print.
     ensures sink { result.status ≡ 8 → Rose (K.faults out) (K.faults result.out) }
+    ensures spared { (result.status ≡ 8) ⊎ (K.faults result.out ≡ K.faults out) }
     ensures write { result.status ≡ 8 → IfSome (file_asked words.now) (λ file.
         HoldsProgram (H.files shelf.old) file (λ program. RunsUntilThePrintFails program result.journal.items (K.held out) (K.held result.out))) }
 
-    // 9: before a run began, or within one, of whose bytes a first part was printed, or all.
+    // 9: before a run began, or within one that isn't complete, between two turns or in a Print. A failed output is no cause of it,
+    // nor of any status but 8.
     ensures memory { result.status ≡ 9 → (result.journal.items ≡ []) × (K.held result.out ≡ K.held out)
         ⊎ IfSome (file_asked words.now) (λ file.
         HoldsProgram (H.files shelf.old) file (λ program. RunsUntilOutOfMemory program result.journal.items (K.held out) (K.held result.out))) }

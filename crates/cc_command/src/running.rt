@@ -58,6 +58,7 @@ fn ending(standing: Standing, faults: Faults) -> Ending
 fn answer(stop: Stop, standing: Standing, faults: Faults) -> Result<Ending, Cause>
     requires { stop ≡ Stop.Over → IsOver standing }
     ensures over { IfOk result (λ ending. stop ≡ Stop.Over) }
+    ensures written { stop ≡ Stop.Write → IsErrOf result Cause.Write }
     ensures ending { IfOk result (λ ending. EndsSo ending standing faults.items) }
     ensures write { IsErrOf result Cause.Write → stop ≡ Stop.Write }
     ensures memory { IsErrOf result Cause.Memory → stop ≡ Stop.Memory }
@@ -77,6 +78,7 @@ pub(crate) fn run_program<K: Sink>(alloc: Global, program: &Arc<Early>, out: K) 
     ensures write { IsErrOf result.answer Cause.Write → (text : List ℕ) → MeansProgram text program.now.value → RunsUntilThePrintFails program.now.value result.journal.items (K.held out) (K.held result.out) }
     ensures cause { IsErrOf result.answer Cause.Write → Rose (K.faults out) (K.faults result.out) }
     ensures memory { IsErrOf result.answer Cause.Memory → (text : List ℕ) → MeansProgram text program.now.value → RunsUntilOutOfMemory program.now.value result.journal.items (K.held out) (K.held result.out) }
+    ensures spared { IsErrOf result.answer Cause.Write ⊎ (K.faults result.out ≡ K.faults out) }
     ensures only { IfErr result.answer (λ cause. (cause ≡ Cause.Write) ⊎ (cause ≡ Cause.Memory)) }
     ensures untimed { AllPass is_untimed result.journal.items }
 {

@@ -1,8 +1,9 @@
 -- A run on its way, turn by turn.
-use Rattle.std.proofs.Common.{◌≡◌, ℕ, ◌≤◌, ◌<◌, ◌+◌, refl, sym, ap, ◌∙◌, subst, List, ◌∷◌, ◌++◌, Bool, Option, arith, cond, length, take}
+use Rattle.std.proofs.Common.{◌≡◌, ℕ, ◌≤◌, inl, inr, true, false, ◌<◌, ◌+◌, refl, sym, ap, ◌∙◌, subst, List, ◌∷◌, ◌++◌, Bool, Option, arith, cond, length, take}
 use Rattle.std.proofs.Math.Seq.{take-append-add}
 use Rattle.std.proofs.lemmas.List.{append-nil, length-append, take_all}
 use Rattle.std.proofs.lemmas.List.Sums.{sum_by-cons}
+use Rattle.std.specs.Prelude.{if◌then◌else◌}
 use Rattle.std.specs.List.{AllPass}
 use Rattle.cc_base.specs.Meaning.{Meaning}
 use Rattle.cc_base.specs.declared.request.Request.{Request}
@@ -10,23 +11,27 @@ use Rattle.cc_base.specs.declared.request.Request.TheVariants as request
 use Rattle.cc_pool.specs.Driven.{GoesOn, NoneOut, StopsAtTheSink, StopsForMemory, is_untimed}
 use Rattle.cc_rules.proofs.GoOn.{printed-append, turns-append}
 use Rattle.cc_rules.proofs.QuietEvents.{settling-prints, settling-turns}
+use Rattle.cc_rules.specs.Ends.{has_faulted, is_complete}
 use Rattle.cc_rules.specs.Events.{next, request_at, word_of}
 use Rattle.cc_rules.specs.Runs.{bytes_of, is_turn, printed, state_after, turns}
+use Rattle.cc_rules.specs.Standing.{standing_of}
 use Rattle.cc_rules.specs.State.{first_state}
 use Rattle.cc_rules.specs.declared.event.Event.{Event}
 use Rattle.cc_rules.specs.declared.event.Event.TheVariants.{Ask}
+use Rattle.cc_rules.specs.declared.event.Standing.{Standing}
+use Rattle.cc_rules.specs.declared.event.Standing.TheVariants.{Ended, Going}
 use Rattle.cc_rules.specs.declared.event.Word.TheVariants as word
 use Rattle.cc_world.proofs.Grown.{grown_twice}
 use Rattle.cc_world.specs.Told.{GrewBy, GrewByPart, with_bytes}
 
 -- at most the allowed turns were taken, none of them a Time, no process is out, and the sink grew by exactly what was
--- printed
+-- printed and has not failed
 pub record OnItsWay (m : Meaning) (input : List ℕ) (allowed : ℕ) (journal : List Event) (outs : List Bool) (held held_now : Option (List ℕ)) (faults faults_now : ℕ) : Type 0 where
   pub within : turns journal ≤ allowed
   pub untimed : AllPass is_untimed journal
   pub inside : NoneOut outs
   pub grew : GrewBy held held_now (printed m input journal)
-  pub later : faults ≤ faults_now
+  pub spared : faults_now ≡ faults
 
 pub turns-cons : (e : Event) (events : List Event) → turns (e ∷ events) ≡ cond (is_turn e) 1 0 + turns events
 turns-cons e events = sum_by-cons (λ x. cond (is_turn x) 1 0) e events
@@ -75,9 +80,9 @@ pub way-on :
     → AllPass is_untimed journal
     → NoneOut outs'
     → GrewBy mid now bytes
-    → faults_mid ≤ faults_now
+    → faults_now ≡ faults_mid
     → OnItsWay m input allowed journal outs' held now faults faults_now
-way-on m input allowed before journal outs outs' held mid now faults faults_mid faults_now bytes way went within untimed inside grew later =
+way-on m input allowed before journal outs outs' held mid now faults faults_mid faults_now bytes way went within untimed inside grew spared =
     record {
       within = within;
       untimed = untimed;
@@ -87,7 +92,7 @@ way-on m input allowed before journal outs outs' held mid now faults faults_mid 
           ∙ ap (λ known. with_bytes known bytes) way.grew
           ∙ grown_twice held (printed m input before) bytes
           ∙ ap (with_bytes held) (sym (prints-on m input before journal bytes went));
-      later = omega (arith, way.later, later);
+      spared = spared ∙ way.spared;
     }
 
 -- it stops at the sink in the Print of its last turn
@@ -119,40 +124,25 @@ sink-stops m input before journal held mid now bytes grew went part =
     }
 
 -- out of memory as the bytes of its last turn are put
-pub memory-stops :
-    (m : Meaning) (input : List ℕ) (before journal : List Event) (held mid now : Option (List ℕ)) (bytes : List ℕ)
-    → GrewBy held mid (printed m input before)
-    → GoesOn m input before journal bytes
-    → GrewByPart mid now bytes
-    → StopsForMemory m input journal held now
-memory-stops m input before journal held mid now bytes grew went part =
-    let first = printed m input before in
-    let all = prints-on m input before journal bytes went in
-    record {
-      count = length first + part.count;
-      within = omega (arith, part.short, ap length all, length-append first bytes);
-      held =
-          part.held
-          ∙ ap (λ known. with_bytes known (take part.count bytes)) grew
-          ∙ grown_twice held first (take part.count bytes)
-          ∙ ap (with_bytes held) (sym (ap (take (length first + part.count)) all ∙ take-append-add first bytes part.count));
-    }
+pub memory-stops : (m : Meaning) (input : List ℕ) (journal : List Event) (held now : Option (List ℕ)) → StopsAtTheSink m input journal held now → StopsForMemory m input journal held now
+memory-stops m input journal held now at_sink = record { part = at_sink.part; stops = inr at_sink.stops; prints = at_sink.prints }
+
+incomplete-if : (complete faulted : Bool) (rest : Standing) → (if complete then Ended faulted else rest) ≡ Going → complete ≡ false
+incomplete-if true faulted rest h = cc
+incomplete-if false faulted rest h = refl
 
 -- out of memory between two turns
 pub memory-stops_between :
-    (m : Meaning) (input : List ℕ) (before journal : List Event) (held mid now : Option (List ℕ))
+    (m : Meaning) (input : List ℕ) (allowed : ℕ) (before journal : List Event) (held mid now : Option (List ℕ))
+    → standing_of m input before allowed ≡ Going
     → GrewBy held mid (printed m input before)
     → journal ≡ before
     → now ≡ mid
     → StopsForMemory m input journal held now
-memory-stops_between m input before journal held mid now grew same kept =
-    let all = printed m input journal in
+memory-stops_between m input allowed before journal held mid now going grew same kept =
+    let s = state_after m input before in
     record {
-      count = length all;
-      within = omega arith;
-      held =
-          kept
-          ∙ grew
-          ∙ ap (λ events. with_bytes held (printed m input events)) (sym same)
-          ∙ ap (with_bytes held) (sym (take_all (length all) all (omega arith)));
+      part = printed m input journal;
+      stops = inl (record { incomplete = rw same (incomplete-if (is_complete s) (has_faulted s) _ going); all = refl });
+      prints = rw same (kept ∙ grew);
     }

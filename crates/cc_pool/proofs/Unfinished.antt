@@ -1,5 +1,5 @@
 -- A run whose last turn is the Ask of a Print is not complete: who asked is running.
-use Rattle.std.proofs.Common.{◌≡◌, ℕ, ◌<◌, Bool, true, false, ◌&&◌, not, List, ◌∷◌, length, refl, sym, ap, ◌∙◌, subst, arith}
+use Rattle.std.proofs.Common.{◌≡◌, ℕ, ◌<◌, ◌⊎◌, inl, inr, Option, Bool, true, false, ◌&&◌, not, List, ◌∷◌, length, refl, sym, ap, ◌∙◌, subst, arith}
 use Rattle.std.specs.Prelude.{if◌then◌else◌}
 use Rattle.std.specs.List.{AllPass}
 use Rattle.std.proofs.lemmas.List.Folds.{list_all_at}
@@ -9,7 +9,9 @@ use Rattle.cc_base.specs.declared.names.Pid.{Pid}
 use Rattle.cc_base.specs.declared.request.Request.{Request}
 use Rattle.cc_base.specs.declared.request.Request.TheVariants as request
 use Rattle.cc_base.specs.declared.request.Grant.TheVariants.{Go}
-use Rattle.cc_pool.specs.Driven.{GoesOn, is_untimed}
+use Rattle.cc_pool.specs.Driven.{GoesOn, StopsAtTheSink, StopsForMemory, is_untimed}
+use Rattle.cc_pool.specs.declared.driven.Stop.{Stop}
+use Rattle.cc_pool.specs.declared.driven.Stop.TheVariants.{Over, Write, Memory}
 use Rattle.cc_rules.proofs.EndIsLast.{run-at}
 use Rattle.cc_rules.proofs.GoOn.{after-append}
 use Rattle.cc_rules.proofs.Held.{at-same}
@@ -71,7 +73,7 @@ running-incomplete s p r =
     list_all_at (λ q. is_over q.standing) s.processes p nobody (running-within s.processes p r)
     (running-not-over (process_at s.processes p).standing r)
 
-pub print-incomplete :
+print-incomplete :
     (m : Meaning) (input : List ℕ) (events : List Event) (part : List ℕ)
     → IsRun m input events
     → StopsInPrint m input events part
@@ -86,6 +88,22 @@ print-incomplete m input events part run stops =
     let runs : is_running (process_at (after m (next m s ask) stops.settling).processes stops.pid.0).standing ≡ true = ap (λ q. is_running q.standing) stays ∙ goes in
     let there : state_after m input events ≡ after m (next m s ask) stops.settling = ap (state_after m input) stops.last_turn ∙ after-append m (first_state input) stops.before (ask ∷ stops.settling) in
     ap is_complete there ∙ running-incomplete (after m (next m s ask) stops.settling) stops.pid.0 runs
+
+-- a run that was cut short is not complete
+pub stopped-incomplete :
+    (m : Meaning) (input : List ℕ) (events : List Event) (held now : Option (List ℕ)) (stop : Stop)
+    → IsRun m input events
+    → (stop ≡ Write → StopsAtTheSink m input events held now)
+    → (stop ≡ Memory → StopsForMemory m input events held now)
+    → (stop ≡ Over) ⊎ (is_complete (state_after m input events) ≡ false)
+stopped-incomplete m input events held now Over run write memory = inl refl
+stopped-incomplete m input events held now Write run write memory = inr (print-incomplete m input events (write refl).part run (write refl).stops)
+stopped-incomplete m input events held now Memory run write memory =
+    let stops = memory refl in
+    elim stops.stops [
+      | inl between ↦ inr between.incomplete
+      | inr within ↦ inr (print-incomplete m input events stops.part run within)
+    ]
 
 -- events by which the machine settles are no Time
 settling-untimed : (events : List Event) → AllPass is_settling events → AllPass is_untimed events

@@ -1,5 +1,5 @@
 -- What a run leaves that was driven as far as it went.
-use Rattle.std.specs.Prelude.{◌≡◌, ◌≢◌, ◌≤◌, ℕ, Bool, false, not, List, ◌∷◌, ◌++◌, Option}
+use Rattle.std.specs.Prelude.{◌≡◌, ◌≢◌, ◌≤◌, ◌⊎◌, ℕ, Bool, false, not, List, ◌∷◌, ◌++◌, Option}
 use Rattle.std.specs.List.{AllPass}
 use Rattle.cc_base.specs.Meaning.{Meaning}
 use Rattle.cc_base.specs.declared.names.FaultKind.{FaultKind}
@@ -7,13 +7,14 @@ use Rattle.cc_base.specs.declared.names.Pid.{Pid}
 use Rattle.cc_rules.specs.Faulted.{faults_from}
 use Rattle.cc_rules.specs.Standing.{IsOver, standing_of}
 use Rattle.cc_kernel.specs.Contract.{is_out_in}
+use Rattle.cc_rules.specs.Ends.{is_complete}
 use Rattle.cc_rules.specs.Events.{is_time, request_at, word_of}
 use Rattle.cc_rules.specs.Runs.{IsRun, IsSettledRun, bytes_of, is_settling, printed, state_after, turns}
 use Rattle.cc_rules.specs.Stops.{StopsInPrint}
 use Rattle.cc_rules.specs.declared.event.Event.{Event}
 use Rattle.cc_rules.specs.declared.event.Event.TheVariants.{Ask}
 use Rattle.cc_rules.specs.declared.event.Standing.{Standing}
-use Rattle.cc_world.specs.Told.{GrewBy, GrewWithin}
+use Rattle.cc_world.specs.Told.{GrewBy}
 
 -- the journal is a settled run of at most the allowed turns, the standing is that of the run, and the faults are those of
 -- the processes that it stopped by one, by number
@@ -36,9 +37,16 @@ pub record StopsAtTheSink (m : Meaning) (input : List ℕ) (journal : List Event
   pub stops : StopsInPrint m input journal part
   pub prints : GrewBy held held_after part
 
--- the sink grew by a first part of what the run prints, or by all of it
-abbrev pub StopsForMemory : Meaning → List ℕ → List Event → Option (List ℕ) → Option (List ℕ) → Type 0
-StopsForMemory m input journal held held_after = GrewWithin held held_after (printed m input journal)
+-- the run isn't complete, and this is exactly what it prints
+pub record IsBetweenTurns (m : Meaning) (input : List ℕ) (journal : List Event) (part : List ℕ) : Type 0 where
+  pub incomplete : is_complete (state_after m input journal) ≡ false
+  pub all : part ≡ printed m input journal
+
+-- it was out of memory between two turns, or in the Print of its last turn, of which the sink took a proper first part
+pub record StopsForMemory (m : Meaning) (input : List ℕ) (journal : List Event) (held held_after : Option (List ℕ)) : Type 0 where
+  pub part : List ℕ
+  pub stops : IsBetweenTurns m input journal part ⊎ StopsInPrint m input journal part
+  pub prints : GrewBy held held_after part
 
 -- the event is no Time
 abbrev pub is_untimed : Event → Bool

@@ -69,6 +69,7 @@ fn step<B: Behave, K: Sink>(alloc: Global, kernel: &mut Kernel<B>, out: &mut K) 
     ensures cause { IsErrOf result Cut.Write → Rose (K.faults out.old) (K.faults out.new) }
     ensures memory { IsErrOf result Cut.Memory → (kernel.new.journal ≡ kernel.old.journal) × (K.held out.new ≡ K.held out.old)
         ⊎ ((bytes : List ℕ) × GoesOn (B.means kernel.old.code) kernel.old.input kernel.old.journal kernel.new.journal bytes × GrewByPart (K.held out.old) (K.held out.new) bytes) }
+    ensures spared { IsErrOf result Cut.Write ⊎ (K.faults out.new ≡ K.faults out.old) }
     ensures later { K.faults out.old ≤ K.faults out.new }
 {
     let Ok((pid, process, request)) = take_asking(alloc, kernel) else {
@@ -95,6 +96,7 @@ fn run_on<B: Behave, K: Sink>(alloc: Global, kernel: &mut Kernel<B>, out: &mut K
     ensures cause { result ≡ Stop.Write → Rose (K.faults out.old) (K.faults out.new) }
     ensures memory { result ≡ Stop.Memory → StopsForMemory (B.means kernel.old.code) kernel.old.input kernel.new.journal (K.held out.old) (K.held out.new) }
     ensures untimed { AllPass is_untimed kernel.new.journal }
+    ensures spared { (result ≡ Stop.Write) ⊎ (K.faults out.new ≡ K.faults out.old) }
     ensures later { K.faults out.old ≤ K.faults out.new }
 {
     while kernel.state() == Standing::Going {
@@ -133,8 +135,8 @@ fn unbegun<K>(alloc: Global, turns: u32, out: K) -> Driven<K>
 ///
 /// The journal is a settled run of the machine on the program. `Over`: the run came to its end, is stuck or has used up
 /// its turns, and the sink took exactly what it prints. `Write`: the sink failed, in the Print of the last turn, and took
-/// all that was printed before and a proper first part of that Print. `Memory`: the sink took a first part of what the
-/// run prints, or all of it.
+/// all that was printed before and a proper first part of that Print. `Memory`: the same in the last Print, or between two
+/// turns, when the sink took exactly what the run prints. After `Write` and `Memory` the run isn't complete.
 pub fn drive<B: Behave, K: Sink>(
     alloc: Global,
     code: &Arc<B>,
@@ -146,10 +148,11 @@ pub fn drive<B: Behave, K: Sink>(
     ensures run { IsRunOf (B.means code.now.value) input turns result.journal.items result.faults.items result.standing }
     ensures over { result.stop ≡ Stop.Over → GoesToItsEnd (B.means code.now.value) input result.journal.items result.standing (K.held out) (K.held result.out) }
     ensures write { result.stop ≡ Stop.Write → StopsAtTheSink (B.means code.now.value) input result.journal.items (K.held out) (K.held result.out) }
-    ensures incomplete { result.stop ≡ Stop.Write → is_complete (state_after (B.means code.now.value) input result.journal.items) ≡ false }
+    ensures incomplete { (result.stop ≡ Stop.Over) ⊎ (is_complete (state_after (B.means code.now.value) input result.journal.items) ≡ false) }
     ensures cause { result.stop ≡ Stop.Write → Rose (K.faults out) (K.faults result.out) }
     ensures memory { result.stop ≡ Stop.Memory → StopsForMemory (B.means code.now.value) input result.journal.items (K.held out) (K.held result.out) }
     ensures untimed { AllPass is_untimed result.journal.items }
+    ensures spared { (result.stop ≡ Stop.Write) ⊎ (K.faults result.out ≡ K.faults out) }
     ensures later { K.faults out ≤ K.faults result.out }
 {
     let mut out = out;

@@ -59,9 +59,3 @@ abbrev pub Tells : {A : Type 0} → Option A → Option A → (A → A → Type 
 Tells old None tied = ⊤
 Tells None (Some y) tied = ⊥
 Tells (Some x) (Some y) tied = tied x y
-
--- the known bytes grew by the first ones of these, or by all
-pub record GrewWithin (old new : Option (List ℕ)) (bytes : List ℕ) : Type 0 where
-  pub count : ℕ
-  pub within : count ≤ length bytes
-  pub held : new ≡ with_bytes old (take count bytes)

@@ -1,5 +1,7 @@
+use Rattle.std.proofs.Common.{ap, inl, inr}
 use Rattle.cc_command.proofs.Decides.{absent, refuses, reports, runs}
 use Rattle.cc_command.proofs.Ends.{goes, is_refused, known-status, one_line, tells}
+use Rattle.cc_command.specs.Statuses.{status_of}
 use Rattle.cc_command.proofs.command.command_one.Goals as goal
 
 pub returns-clause-first_fault : goal.returns-clause-first_fault
@@ -9,6 +11,13 @@ returns-clause-first_fault g c =
 pub returns-clause-headline : goal.returns-clause-headline
 returns-clause-headline g c =
     rw c.status_number.ensures (goes _ _ _ _ _ _ _ _ c.run_file-ran.result.answer _ _ _ c.run_file-ran.ensures.done c.report.ensures.told)
+
+pub returns-clause-spared : goal.returns-clause-spared
+returns-clause-spared g c =
+    rw c.status_number.ensures (elim c.run_file-ran.ensures.spared [
+      | inl failed ↦ inl (ap status_of failed)
+      | inr same ↦ inr same
+    ])
 
 pub returns-clause-unbegun : goal.returns-clause-unbegun
 returns-clause-unbegun g c = rw c.status_number.ensures (λ among. c.run_file-ran.ensures.unbegun (is_refused c.run_file-ran.result.answer among))

@@ -1,6 +1,6 @@
-use Rattle.std.proofs.Common.{None}
+use Rattle.std.proofs.Common.{None, inl, inr}
 use Rattle.cc_command.proofs.Ends.{if_both}
-use Rattle.cc_command.proofs.Finishes.{finishes, same-meaning, stops, wants, well}
+use Rattle.cc_command.proofs.Finishes.{finishes, if_cut, out_of_memory, same-meaning, stops, well}
 use Rattle.cc_kernel.proofs.Untimed.{asks-no-deadline}
 use Rattle.cc_source.specs.Early.{early_meaning}
 use Rattle.cc_source.specs.Lawful.{early_supported}
@@ -35,12 +35,21 @@ returns-clause-write g c = λ is text means.
     let cut = c.answer.ensures.write is in
     let run = rw (same, c.new.ensures) at c.drive-ran.ensures.run in
     let part = rw (same, c.new.ensures) at (c.drive-ran.ensures.write cut) in
-    let incomplete = rw (same, c.new.ensures) at (c.drive-ran.ensures.incomplete cut) in
+    let incomplete = rw (same, c.new.ensures) at (if_cut _ _ cut (λ e. cc) c.drive-ran.ensures.incomplete) in
     stops text c.args.program.now.value means _ _ _ _ _ run incomplete part
 
 pub returns-clause-memory : goal.returns-clause-memory
 returns-clause-memory g c = λ is text means.
     let same = same-meaning text c.args.program.now.value means in
     let run = rw (same, c.new.ensures) at c.drive-ran.ensures.run in
-    let part = rw (same, c.new.ensures) at (c.drive-ran.ensures.memory (c.answer.ensures.memory is)) in
-    wants text c.args.program.now.value means _ _ _ _ _ run part
+    let cut = c.answer.ensures.memory is in
+    let part = rw (same, c.new.ensures) at (c.drive-ran.ensures.memory cut) in
+    let incomplete = rw (same, c.new.ensures) at (if_cut _ _ cut (λ e. cc) c.drive-ran.ensures.incomplete) in
+    out_of_memory text c.args.program.now.value means _ _ _ _ _ run incomplete part
+
+pub returns-clause-spared : goal.returns-clause-spared
+returns-clause-spared g c =
+    elim c.drive-ran.ensures.spared [
+      | inl failed ↦ inl (c.answer.ensures.written failed)
+      | inr same ↦ inr same
+    ]

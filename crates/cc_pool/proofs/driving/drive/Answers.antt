@@ -1,7 +1,7 @@
-use Rattle.std.proofs.Common.{◌∙◌, sym, subst}
+use Rattle.std.proofs.Common.{◌∙◌, inr, refl, sym, subst}
 use Rattle.cc_kernel.specs.Untimed.{AsksNoDeadline}
 use Rattle.cc_pool.proofs.Begun.{empty-run, kernel-run}
-use Rattle.cc_pool.proofs.Unfinished.{print-incomplete}
+use Rattle.cc_pool.proofs.Unfinished.{stopped-incomplete}
 use Rattle.cc_pool.proofs.driving.drive.Goals as goal
 
 pub run_on-stop-requires-clause-no_deadline : goal.run_on-stop-requires-clause-no_deadline
@@ -26,9 +26,12 @@ returns-clause-run g c =
 
 pub returns-clause-incomplete : goal.returns-clause-incomplete
 returns-clause-incomplete g c =
-    let m = g.B.Behave.means c.args.code.now.value in
-    let stops = rw (c.in-Ok.ensures.code, c.in-Ok.ensures.input) at c.run_on-stop.ensures.write in
     let told = c.into_journal-journal.ensures in
-    λ is. rw told.journal
-    (print-incomplete m c.args.input c.run_on-stop.new.kernel.journal (stops is).part
-    (rw told.journal at (returns-clause-run g c).legal) (stops is).stops)
+    rw told.journal
+    (stopped-incomplete (g.B.Behave.means c.args.code.now.value) c.args.input c.run_on-stop.new.kernel.journal _ _ c.run_on-stop.result
+    (rw told.journal at (returns-clause-run g c).legal)
+    (rw (c.in-Ok.ensures.code, c.in-Ok.ensures.input) at c.run_on-stop.ensures.write)
+    (rw (c.in-Ok.ensures.code, c.in-Ok.ensures.input) at c.run_on-stop.ensures.memory))
+
+pub returns-in_default-clause-incomplete : goal.returns-in_default-clause-incomplete
+returns-in_default-clause-incomplete g c = inr (rw c.unbegun.ensures.journal refl)

@@ -27,9 +27,10 @@ pub returns-in-Err-Memory-clause-memory : goal.returns-in-Err-Memory-clause-memo
 returns-in-Err-Memory-clause-memory g c =
     let was = c.loop-alloc.invariant in
     let stopped = rw (was.0, was.1) at (c.in-Err-Memory.ensures.memory (ap Err c.in-Err-Memory.field-0-is)) in
+    let m = g.B.Behave.means c.args.kernel.now.code in
     λ is. elim stopped [
-      | inl between ↦ memory-stops_between (g.B.Behave.means c.args.kernel.now.code) c.args.kernel.now.input _ _ _ _ _ was.3.grew between.0 between.1
-      | inr within ↦ memory-stops (g.B.Behave.means c.args.kernel.now.code) c.args.kernel.now.input _ _ _ _ _ within.0 was.3.grew within.1 within.2
+      | inl between ↦ memory-stops_between m c.args.kernel.now.input c.args.kernel.now.turns _ _ _ _ _ ? was.3.grew between.0 between.1
+      | inr within ↦ memory-stops m c.args.kernel.now.input _ _ _ (sink-stops m c.args.kernel.now.input _ _ _ _ _ within.0 was.3.grew within.1 within.2)
     ]
 
 pub returns-in-Err-Write-clause-untimed : goal.returns-in-Err-Write-clause-untimed
