@@ -1,10 +1,11 @@
 ghost use Rattle.std.specs.Prelude.{◌≡◌, ◌<◌, length, slice_get, Some};
 ghost use Rattle.cc_command.specs.ProcessFaults.{fault_name};
-ghost use Rattle.cc_command.specs.Reports.{bytes_of, fault_line, process_line, process_lines, Wrote};
+ghost use Rattle.cc_command.specs.Reports.{bytes_of, fault_line, line_of, process_line, process_lines, Wrote};
 ghost use Rattle.cc_command.specs.Statuses.{report_for, report_in, report_of, status_of};
 ghost use Rattle.cc_world.specs.Told.{Reported};
 
 use crate::cause::{Cause, Ending};
+use crate::status::status_number;
 use crate::text_fault::TextFault;
 use cc_base::{FaultKind, Pid};
 use cc_rules::Faults;
@@ -145,4 +146,14 @@ pub(crate) fn report<E: Sink>(err: &mut E, answer: &Result<Ending, Cause>)
         Err(IoFault::Failed) => {}
         Err(IoFault::Memory) => {}
     }
+}
+
+/// Reports that there was no memory for the words of a command line, as far as the sink takes it, and answers the status.
+pub fn report_out_of_memory<E: Sink>(err: &mut E) -> u8
+    ensures status { result ≡ 9 }
+    ensures told { Reported (E.held err.old) (E.held err.new) (line_of 9) (E.faults err.old) (E.faults err.new) (E.wants err.old) (E.wants err.new) }
+{
+    let answer = Err(Cause::Memory);
+    report(err, &answer);
+    status_number(&answer)
 }

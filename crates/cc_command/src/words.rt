@@ -1,8 +1,12 @@
-ghost use Rattle.std.specs.Prelude.{◌≡◌, [], ◌∷◌, ◌++◌, length, OnOk, OnErr, slice_get, option_map};
-ghost use Rattle.cc_command.specs.Asked.{file_asked};
+ghost use Rattle.std.specs.Prelude.{◌≡◌, [], ◌∷◌, ◌++◌, drop, length, map, string_bytes, IfErr, IfOk, IsErr, OnOk, OnErr, slice_get, option_map};
+ghost use Rattle.std.specs.IoError.{error_kind};
+ghost use Rattle.std.specs.Vec.Iter.{into_iter_items};
+ghost use Rattle.cc_command.specs.Asked.{file_asked, words_in};
 
 use cc_base::Memory;
 use std::alloc::Global;
+use std::env::Args;
+use std::io::{self, ErrorKind};
 use std::marker::Model;
 
 /// The words of a command line, those after the program's name. It keeps its allocator.
@@ -55,6 +59,32 @@ impl Words {
         let copied = String::from_str(self.alloc, word)?;
         self.items.push(copied)?;
         Ok(())
+    }
+}
+
+/// Copies the words behind the first, which names the program.
+fn copied_words(alloc: Global, args: Args) -> Result<Words, Memory>
+    ensures words { IfOk result (λ words. words ≡ drop 1 (map string_bytes (into_iter_items args))) }
+{
+    let mut args = args;
+    let mut words = Words::new(alloc);
+    let _program = args.next();
+    for word in args {
+        words.push(word.as_str())?;
+    }
+    Ok(words)
+}
+
+/// The words of a command line, in order, from the arguments that the system gave, the first of which names the program. An
+/// argument that is no UTF-8 makes the line one without words, which asks for nothing.
+pub fn words_given(alloc: Global, given: io::Result<Args>) -> Result<Words, Memory>
+    ensures words { IfOk result (λ words. words ≡ words_in given) }
+    ensures memory { IfErr given (λ error. error_kind error ≡ ErrorKind.OutOfMemory → IsErr result) }
+{
+    match given {
+        Ok(args) => copied_words(alloc, args),
+        Err(error) if error.kind() == ErrorKind::OutOfMemory => Err(Memory),
+        Err(_) => Ok(Words::new(alloc)),
     }
 }
 

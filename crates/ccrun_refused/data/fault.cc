@@ -1,0 +1,4 @@
+main() {
+    putchar(72);
+    putchar(;
+}
