@@ -1,4 +1,4 @@
-use Rattle.std.proofs.Common.{◌∙◌, ap, inl, inr, subst, sym, Err}
+use Rattle.std.proofs.Common.{◌∙◌, ap, inl, inr, rules, subst, sym, Err}
 use Rattle.std.specs.List.{AllPass}
 use Rattle.cc_pool.specs.Driven.{is_untimed}
 use Rattle.cc_pool.proofs.Turns.{memory-stops, memory-stops_between, sink-stops, way-on}
@@ -14,7 +14,7 @@ loop-alloc-preserved g c =
       c.step.ensures.input ∙ was.1,
       c.step.ensures.turns ∙ was.2,
       way-on (g.B.Behave.means c.args.kernel.now.code) c.args.kernel.now.input c.args.kernel.now.turns _ _ _ _ _ _ _ _ _ _ done.0
-          was.3 done.1 within (untimed-on _ _ _ _ done.0 done.1 was.3.untimed) c.in-Ok.ensures.inside done.2 c.step.ensures.later,
+          was.3 done.1 within (untimed-on _ _ _ _ done.0 done.1 was.3.untimed) c.in-Ok.ensures.inside done.2 (search rules),
     )
 
 pub returns-in-Err-Write-clause-write : goal.returns-in-Err-Write-clause-write
@@ -29,7 +29,7 @@ returns-in-Err-Memory-clause-memory g c =
     let stopped = rw (was.0, was.1) at (c.in-Err-Memory.ensures.memory (ap Err c.in-Err-Memory.field-0-is)) in
     let m = g.B.Behave.means c.args.kernel.now.code in
     λ is. elim stopped [
-      | inl between ↦ memory-stops_between m c.args.kernel.now.input c.args.kernel.now.turns _ _ _ _ _ ? was.3.grew between.0 between.1
+      | inl between ↦ memory-stops_between m c.args.kernel.now.input c.args.kernel.now.turns _ _ _ _ _ (search rules) was.3.grew between.0 between.1
       | inr within ↦ memory-stops m c.args.kernel.now.input _ _ _ (sink-stops m c.args.kernel.now.input _ _ _ _ _ within.0 was.3.grew within.1 within.2)
     ]
 
