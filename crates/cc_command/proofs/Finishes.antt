@@ -190,6 +190,6 @@ module _ (text : List ℕ) (program : Parts) (means : MeansProgram text program)
           run = allowed-run;
           part = cut.part;
           prints = cut.prints;
-          stops = elim cut.stops [ | inl between ↦ inl between.all | inr within ↦ inr within ];
+          stops = elim cut.stops [ inl between ↦ inl between.all | inr within ↦ inr within ];
           incomplete = incomplete;
         }
