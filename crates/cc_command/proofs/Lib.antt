@@ -1,3 +1,4 @@
+pub mod Arguments
 pub mod Decides
 pub mod Ends
 pub mod Files
