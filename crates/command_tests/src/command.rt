@@ -234,6 +234,15 @@ fn failures_are_told(rt: HostRuntime) {
 }
 
 #[test]
+fn a_file_is_read_once(rt: HostRuntime) {
+    let second_call_fails = Case {
+        shelf_fails: 2,
+        ..sound()
+    };
+    check(&rt, rt.alloc(), &second_call_fails);
+}
+
+#[test]
 fn an_earlier_failure_is_no_cause(rt: HostRuntime) {
     let alloc = rt.alloc();
     let mut out = MemSink::new(alloc, 64, failing(&rt, alloc, 1));
