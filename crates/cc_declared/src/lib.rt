@@ -17,6 +17,7 @@ mod lookups;
 mod names;
 mod outcomes;
 mod seen;
+mod sites;
 mod structures;
 mod sums;
 mod types;

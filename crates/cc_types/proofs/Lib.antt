@@ -1,0 +1,4 @@
+pub mod Parting
+pub mod Judging
+pub mod Naming
+pub mod Clauses

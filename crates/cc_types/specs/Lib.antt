@@ -1,0 +1,5 @@
+pub mod Scenes
+pub mod Parts
+pub mod Checkers
+pub mod Judging
+pub mod Naming
