@@ -74,7 +74,7 @@ module _ (k : RawCode) (i : Instr) (F : List Frame) (S C : List ℤ) (r : Regist
   left rest = record { grants = rest; ticks = r.ticks }
 
   -- the state that the registers and lists keep afterwards
-  same-state : (address top : ℕ) (S' C' stack cells : List ℤ) (offers : List (ℕ × Alt)) (rest : List Grant)
+  pub same-state : (address top : ℕ) (S' C' stack cells : List ℤ) (offers : List (ℕ × Alt)) (rest : List Grant)
       → stack ≡ between r.bottom top S' → cells ≡ between r.first r.end C' → take r.bottom S' ≡ take r.bottom S → take r.first C' ≡ take r.first C
       → Goes (record { address = address; stack = stack; store = record { cells = cells; offers = offers }; left = left rest; count = suc r.count; frames = callers F r.calls (take r.bottom S) (take r.first C) })
       ≡ Goes (with_grants (state_of (moved r address top) S' C' F offers) rest)
@@ -91,7 +91,7 @@ module _ (k : RawCode) (i : Instr) (F : List Frame) (S C : List ℤ) (r : Regist
     operands : between r.bottom r.top S ≡ between r.bottom place S ++ vs
     operands = between-split r.bottom place r.top S low (omega (arith, taken)) top ∙ ap (λ (xs : List ℤ). between r.bottom place S ++ xs) these
 
-    works-here : (offers : List (ℕ × Alt)) (rest : List Grant) → performed k i (here offers rest) ≡ after false (here offers rest) (between r.bottom place S) (works k (r.at + 1) i vs (store offers) (left rest))
+    pub works-here : (offers : List (ℕ × Alt)) (rest : List Grant) → performed k i (here offers rest) ≡ after false (here offers rest) (between r.bottom place S) (works k (r.at + 1) i vs (store offers) (left rest))
     works-here offers rest = worked-at k i (here offers rest) is-worked none (between r.bottom place S) vs operands size
 
     -- it faults

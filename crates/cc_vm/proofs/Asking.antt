@@ -22,7 +22,6 @@ use Rattle.cc_vm.proofs.Between.{between-one, between-split, between-two, length
 use Rattle.cc_vm.proofs.Fragments.{popped-is}
 use Rattle.cc_vm.proofs.Running.{fits}
 use Rattle.cc_vm.specs.Asking.{Requested, addressed}
-use Rattle.cc_vm.specs.Endings.{EndsFrom, IsNoPause, ending_of}
 use Rattle.cc_vm.specs.Lists.{IsReady, kept_state}
 use Rattle.cc_vm.specs.Machine.{between, cell_of, state_of}
 use Rattle.cc_vm.specs.Running.{IsRoom}
@@ -42,7 +41,7 @@ module _ (k : RawCode) (i : Instr) (F : List Frame) (S C : List ℤ) (r : Regist
   none = record { grants = []; ticks = r.ticks }
 
   -- where its operands are these, and it asks
-  asked : (place : ℕ) (vs : List ℤ) (q : Request) → r.bottom ≤ place → place ≤ r.top → r.top ≤ length S → between place r.top S ≡ vs → length vs ≡ takes k i
+  pub asked : (place : ℕ) (vs : List ℤ) (q : Request) → r.bottom ≤ place → place ≤ r.top → r.top ≤ length S → between place r.top S ≡ vs → length vs ≡ takes k i
       → works k (r.at + 1) i vs store none ≡ Asked q → step k alone ≡ Stops (Asks q)
   asked place vs q low high top these size w =
       ap (λ (o : Option Instr). stepped k o alone) at
@@ -85,7 +84,7 @@ module _ (k : RawCode) (verified : IsVerified k) (room : ℕ) (enough : IsRoom k
   has-top = fit.top
 
 -- the operands of a call: the number of the process, and the arguments
-call-operands : (S : List ℤ) (top n : ℕ) → n < top → top ≤ length S → between (top - (1 + n)) top S ≡ cell_of S (top - n - 1) ∷ between (top - n) top S
+pub call-operands : (S : List ℤ) (top n : ℕ) → n < top → top ≤ length S → between (top - (1 + n)) top S ≡ cell_of S (top - n - 1) ∷ between (top - n) top S
 call-operands S top n h t =
     let p : ℕ = top - n - 1 in
     let e : top - (1 + n) ≡ p = omega (arith, h) in
@@ -95,7 +94,7 @@ call-operands S top n h t =
     ∙ ap (λ (xs : List ℤ). xs ++ between (p + 1) top S) (between-one S p (omega (arith, h, t)))
     ∙ ap (λ (m : ℕ). cell_of S p ∷ between m top S) f
 
-timed-operands : (S : List ℤ) (top n : ℕ) → n + 1 < top → top ≤ length S → between (top - (2 + n)) top S ≡ cell_of S (top - n - 2) ∷ cell_of S (top - n - 1) ∷ between (top - n) top S
+pub timed-operands : (S : List ℤ) (top n : ℕ) → n + 1 < top → top ≤ length S → between (top - (2 + n)) top S ≡ cell_of S (top - n - 2) ∷ cell_of S (top - n - 1) ∷ between (top - n) top S
 timed-operands S top n h t =
     let p : ℕ = top - n - 2 in
     let e : top - (2 + n) ≡ p = omega (arith, h) in
@@ -107,32 +106,27 @@ timed-operands S top n h t =
     ∙ ap (λ (m : ℕ). cell_of S p ∷ cell_of S m ∷ between (p + 2) top S) f
     ∙ ap (λ (m : ℕ). cell_of S p ∷ cell_of S (top - n - 1) ∷ between m top S) g
 
-one-operand : (S : List ℤ) (top : ℕ) → 0 < top → top ≤ length S → between (top - 1) top S ≡ cell_of S (top - 1) ∷ []
+pub one-operand : (S : List ℤ) (top : ℕ) → 0 < top → top ≤ length S → between (top - 1) top S ≡ cell_of S (top - 1) ∷ []
 one-operand S top h t =
     let e : top ≡ top - 1 + 1 = omega (arith, h) in
     ap (λ (m : ℕ). between (top - 1) m S) e ∙ between-one S (top - 1) (omega (arith, h, t))
-
-addressed-no-pause : (u : Result Pid FaultKind) (f : Pid → Request) → ((target : Pid) → IsNoPause (f target)) → IsNoPause (addressed u f)
-addressed-no-pause (Ok target) f h = h target
-addressed-no-pause (Err kind) f h = tt
 
 module _ (k : RawCode) (F : List Frame) (S C : List ℤ) (r : Registers) (offers : List (ℕ × Alt)) where
   abbrev now : State
   now = with_grants (state_of r S C F offers) []
 
   abbrev Stopped : Request → Type 0
-  Stopped q = (step k now ≡ Stops (Asks q)) × IsNoPause q
+  Stopped q = step k now ≡ Stops (Asks q)
 
   some-is : (q p : Request) → Some q ≡ Some p → Stopped p → Stopped q
   some-is q p e h = subst Stopped (let f : p ≡ q = cc in f) h
 
-  asks-by : (i : Instr) → slice_get k.instrs r.at ≡ Some i → Fits k i S C r → (q : Request) → Requested k i S r.top (Some q) → Stopped q
+  pub asks-by : (i : Instr) → slice_get k.instrs r.at ≡ Some i → Fits k i S C r → (q : Request) → Requested k i S r.top (Some q) → Stopped q
   asks-by (instr.Create kind) at fit q h =
       some-is q (request.Create kind (between (r.top - (kind_at k kind).args) r.top S)) h (
-        asked k (instr.Create kind) F S C r at (λ s. refl) offers (r.top - (kind_at k kind).args) (between (r.top - (kind_at k kind).args) r.top S) (request.Create kind (between (r.top - (kind_at k kind).args) r.top S))
-            (omega (arith, fit.operands, fit.low)) (omega arith) fit.top refl
-            (let e : length (between (r.top - (kind_at k kind).args) r.top S) ≡ r.top - (r.top - (kind_at k kind).args) = length-between (r.top - (kind_at k kind).args) r.top S fit.top in omega (arith, e, fit.operands)) refl,
-        tt,
+      asked k (instr.Create kind) F S C r at (λ s. refl) offers (r.top - (kind_at k kind).args) (between (r.top - (kind_at k kind).args) r.top S) (request.Create kind (between (r.top - (kind_at k kind).args) r.top S))
+      (omega (arith, fit.operands, fit.low)) (omega arith) fit.top refl
+      (let e : length (between (r.top - (kind_at k kind).args) r.top S) ≡ r.top - (r.top - (kind_at k kind).args) = length-between (r.top - (kind_at k kind).args) r.top S fit.top in omega (arith, e, fit.operands)) refl
       )
   asks-by (instr.Ask t) at fit q h =
       let n : ℕ = (shape_at k t).args in
@@ -141,10 +135,9 @@ module _ (k : RawCode) (F : List Frame) (S C : List ℤ) (r : Registers) (offers
       let less : n < r.top = omega (arith, fit.operands) in
       let e : length args ≡ r.top - (r.top - n) = length-between (r.top - n) r.top S fit.top in
       some-is q (addressed (callee x) (λ target. request.Call target t args)) h (
-        asked k (instr.Ask t) F S C r at (λ s. refl) offers (r.top - (1 + n)) (x ∷ args) (addressed (callee x) (λ target. request.Call target t args))
-            (omega (arith, fit.operands, fit.low)) (omega arith) fit.top (call-operands S r.top n less fit.top) (omega (arith, e, less))
-            (called-by (r.at + 1) (store k (instr.Ask t) F S C r at (λ s. refl) offers) (none k (instr.Ask t) F S C r at (λ s. refl) offers) refl t (shape_at k t).value args (callee x)),
-        addressed-no-pause (callee x) (λ target. request.Call target t args) (λ target. tt),
+      asked k (instr.Ask t) F S C r at (λ s. refl) offers (r.top - (1 + n)) (x ∷ args) (addressed (callee x) (λ target. request.Call target t args))
+      (omega (arith, fit.operands, fit.low)) (omega arith) fit.top (call-operands S r.top n less fit.top) (omega (arith, e, less))
+      (called-by (r.at + 1) (store k (instr.Ask t) F S C r at (λ s. refl) offers) (none k (instr.Ask t) F S C r at (λ s. refl) offers) refl t (shape_at k t).value args (callee x))
       )
   asks-by (instr.AskWithin t late) at fit q h =
       let n : ℕ = (shape_at k t).args in
@@ -154,10 +147,9 @@ module _ (k : RawCode) (F : List Frame) (S C : List ℤ) (r : Registers) (offers
       let less : n + 1 < r.top = omega (arith, fit.operands) in
       let e : length args ≡ r.top - (r.top - n) = length-between (r.top - n) r.top S fit.top in
       some-is q (addressed (callee x) (λ target. request.TimedCall target t args wait)) h (
-        asked k (instr.AskWithin t late) F S C r at (λ s. refl) offers (r.top - (2 + n)) (wait ∷ x ∷ args) (addressed (callee x) (λ target. request.TimedCall target t args wait))
-            (omega (arith, fit.operands, fit.low)) (omega arith) fit.top (timed-operands S r.top n less fit.top) (omega (arith, e, less))
-            (timed-by (r.at + 1) (store k (instr.AskWithin t late) F S C r at (λ s. refl) offers) (none k (instr.AskWithin t late) F S C r at (λ s. refl) offers) refl t (shape_at k t).value late args wait (callee x)),
-        addressed-no-pause (callee x) (λ target. request.TimedCall target t args wait) (λ target. tt),
+      asked k (instr.AskWithin t late) F S C r at (λ s. refl) offers (r.top - (2 + n)) (wait ∷ x ∷ args) (addressed (callee x) (λ target. request.TimedCall target t args wait))
+      (omega (arith, fit.operands, fit.low)) (omega arith) fit.top (timed-operands S r.top n less fit.top) (omega (arith, e, less))
+      (timed-by (r.at + 1) (store k (instr.AskWithin t late) F S C r at (λ s. refl) offers) (none k (instr.AskWithin t late) F S C r at (λ s. refl) offers) refl t (shape_at k t).value late args wait (callee x))
       )
   asks-by (instr.Send t) at fit q h =
       let n : ℕ = (shape_at k t).args in
@@ -166,37 +158,32 @@ module _ (k : RawCode) (F : List Frame) (S C : List ℤ) (r : Registers) (offers
       let less : n < r.top = omega (arith, fit.operands) in
       let e : length args ≡ r.top - (r.top - n) = length-between (r.top - n) r.top S fit.top in
       some-is q (addressed (callee x) (λ target. request.Send target t args)) h (
-        asked k (instr.Send t) F S C r at (λ s. refl) offers (r.top - (1 + n)) (x ∷ args) (addressed (callee x) (λ target. request.Send target t args))
-            (omega (arith, fit.operands, fit.low)) (omega arith) fit.top (call-operands S r.top n less fit.top) (omega (arith, e, less))
-            (sent-by (r.at + 1) (store k (instr.Send t) F S C r at (λ s. refl) offers) (none k (instr.Send t) F S C r at (λ s. refl) offers) refl t args (callee x)),
-        addressed-no-pause (callee x) (λ target. request.Send target t args) (λ target. tt),
+      asked k (instr.Send t) F S C r at (λ s. refl) offers (r.top - (1 + n)) (x ∷ args) (addressed (callee x) (λ target. request.Send target t args))
+      (omega (arith, fit.operands, fit.low)) (omega arith) fit.top (call-operands S r.top n less fit.top) (omega (arith, e, less))
+      (sent-by (r.at + 1) (store k (instr.Send t) F S C r at (λ s. refl) offers) (none k (instr.Send t) F S C r at (λ s. refl) offers) refl t args (callee x))
       )
   asks-by instr.Wait at fit q h =
       let some : 0 < r.top = omega (arith, fit.operands) in
       some-is q (request.Delay (cell_of S (r.top - 1))) h (
-        asked k instr.Wait F S C r at (λ s. refl) offers (r.top - 1) (cell_of S (r.top - 1) ∷ []) (request.Delay (cell_of S (r.top - 1)))
-            (omega (arith, fit.operands, fit.low)) (omega arith) fit.top (one-operand S r.top some fit.top) refl refl,
-        tt,
+      asked k instr.Wait F S C r at (λ s. refl) offers (r.top - 1) (cell_of S (r.top - 1) ∷ []) (request.Delay (cell_of S (r.top - 1)))
+      (omega (arith, fit.operands, fit.low)) (omega arith) fit.top (one-operand S r.top some fit.top) refl refl
       )
   asks-by (instr.Reply n) at fit q h =
       some-is q (request.Reply (between (r.top - n) r.top S)) h (
-        asked k (instr.Reply n) F S C r at (λ s. refl) offers (r.top - n) (between (r.top - n) r.top S) (request.Reply (between (r.top - n) r.top S))
-            (omega (arith, fit.operands, fit.low)) (omega arith) fit.top refl
-            (let e : length (between (r.top - n) r.top S) ≡ r.top - (r.top - n) = length-between (r.top - n) r.top S fit.top in omega (arith, e, fit.operands)) refl,
-        tt,
+      asked k (instr.Reply n) F S C r at (λ s. refl) offers (r.top - n) (between (r.top - n) r.top S) (request.Reply (between (r.top - n) r.top S))
+      (omega (arith, fit.operands, fit.low)) (omega arith) fit.top refl
+      (let e : length (between (r.top - n) r.top S) ≡ r.top - (r.top - n) = length-between (r.top - n) r.top S fit.top in omega (arith, e, fit.operands)) refl
       )
   asks-by instr.PutByte at fit q h =
       let some : 0 < r.top = omega (arith, fit.operands) in
       some-is q (request.Print (byte_of (cell_of S (r.top - 1)) ∷ [])) h (
-        asked k instr.PutByte F S C r at (λ s. refl) offers (r.top - 1) (cell_of S (r.top - 1) ∷ []) (request.Print (byte_of (cell_of S (r.top - 1)) ∷ []))
-            (omega (arith, fit.operands, fit.low)) (omega arith) fit.top (one-operand S r.top some fit.top) refl refl,
-        tt,
+      asked k instr.PutByte F S C r at (λ s. refl) offers (r.top - 1) (cell_of S (r.top - 1) ∷ []) (request.Print (byte_of (cell_of S (r.top - 1)) ∷ []))
+      (omega (arith, fit.operands, fit.low)) (omega arith) fit.top (one-operand S r.top some fit.top) refl refl
       )
   asks-by instr.GetByte at fit q h =
       some-is q request.Get h (
-        asked k instr.GetByte F S C r at (λ s. refl) offers r.top [] request.Get fit.low (omega arith) fit.top
-            (let e : length (between r.top r.top S) ≡ r.top - r.top = length-between r.top r.top S fit.top in nil-from (between r.top r.top S) (omega (arith, e))) refl refl,
-        tt,
+      asked k instr.GetByte F S C r at (λ s. refl) offers r.top [] request.Get fit.low (omega arith) fit.top
+      (let e : length (between r.top r.top S) ≡ r.top - r.top = length-between r.top r.top S fit.top in nil-from (between r.top r.top S) (omega (arith, e))) refl refl
       )
     where
       nil-from : (xs : List ℤ) → length xs ≡ 0 → xs ≡ []
@@ -207,16 +194,8 @@ module _ (k : RawCode) (F : List Frame) (S C : List ℤ) (r : Registers) (offers
       let numbers : List ℤ = between (r.top - n) r.top S in
       let e : length numbers ≡ r.top - (r.top - n) = length-between (r.top - n) r.top S fit.top in
       some-is q (request.Print (formatted (format_at k f) numbers)) h (
-        asked k (instr.Format f) F S C r at (λ s. refl) offers (r.top - n) numbers (request.Print (formatted (format_at k f) numbers)) (omega (arith, fit.operands, fit.low)) (omega arith) fit.top refl
-            (omega (arith, e, fit.operands)) refl,
-        tt,
+      asked k (instr.Format f) F S C r at (λ s. refl) offers (r.top - n) numbers (request.Print (formatted (format_at k f) numbers)) (omega (arith, fit.operands, fit.low)) (omega arith) fit.top refl
+      (omega (arith, e, fit.operands)) refl
       )
-  asks-by instr.End at fit q h = some-is q request.Done h (ap (λ (o : Option Instr). stepped k o now) at, tt)
+  asks-by instr.End at fit q h = some-is q request.Done h (ap (λ (o : Option Instr). stepped k o now) at)
   asks-by i at fit q h = absurd (let e : Some q ≡ None = h in cc)
-
-module _ (k : RawCode) (verified : IsVerified k) (room : ℕ) (enough : IsRoom k room) (l : Lists) (ready : IsReady k room l) (i : Instr) (at : slice_get k.instrs l.registers.at ≡ Some i) where
-  pub request-ends : (o : Option Request) → Requested k i l.stack.items l.registers.top o → EndsFrom k l (ending_of o i)
-  request-ends None h process fed offers follows = (kept_state l offers, follows, at)
-  request-ends (Some q) h process fed offers follows =
-      let s = asks-by k l.frames.items l.stack.items l.cells.items l.registers offers i at (fit k verified room enough l ready i at) q h in
-      (follows-stop k process fed (kept_state l offers) follows (Asks q) s.0, s.1)

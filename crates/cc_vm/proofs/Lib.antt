@@ -4,9 +4,16 @@ pub mod Between
 pub mod Copies
 pub mod Found
 pub mod Fragments
+pub mod Granting
 pub mod Growing
 pub mod Heights
+pub mod Leaving
+pub mod Offering
+pub mod Onward
 pub mod Pausing
 pub mod Printing
+pub mod Processes
+pub mod Programs
+pub mod Resuming
 pub mod Running
 pub mod Sites

@@ -1,4 +1,4 @@
--- How a process begins, what it asks at a stop, and how it goes on after a pause.
+-- How a process begins, and how it goes on after a pause.
 use Rattle.std.proofs.Common.{◌≡◌, ℕ, ℤ, pos, zero, suc, ◌+◌, ◌-◌, ◌<◌, ◌≤◌, Bool, true, false, List, [], ◌∷◌, ◌++◌, append-nil, append_assoc, length, length-append, take, replicate, slice_get, Option, Some, None, Result, Ok, Err, IfOk, refl, sym, ◌∙◌, ap, subst, arith}
 use Rattle.std.specs.Prelude.{nat_lt, if◌then◌else◌}
 use Rattle.std.proofs.lemmas.Bool.Decides.{nat_tests}
@@ -24,14 +24,9 @@ use Rattle.cc_code.specs.declared.instr.Instr.{Instr}
 use Rattle.cc_code.specs.declared.instr.Instr.TheVariants as instr
 use Rattle.cc_code.specs.declared.rule.Rule.TheVariants as rule
 use Rattle.cc_vm.proofs.Fragments.{popped-is}
-use Rattle.cc_vm.specs.Asking.{IsPause}
-use Rattle.cc_vm.specs.Endings.{AfterSlice, CameThrough, EndsAlone, EndsFrom, EndsWithin, IsPaused, WaitsAt, ending_of}
 use Rattle.cc_vm.specs.Lists.{GoOn, IsReady, StartsWith, first_registers, kept_state, ticked_again}
 use Rattle.cc_vm.specs.Machine.{between, callers, state_of}
 use Rattle.cc_vm.specs.Running.{Follows, Ready}
-use Rattle.cc_vm.specs.declared.ending.Ending.{Ending}
-use Rattle.cc_vm.specs.declared.ending.Ending.TheVariants.{Paused}
-use Rattle.cc_vm.specs.declared.ending.Ending.TheVariants.{Asks as Asked}
 use Rattle.cc_vm.specs.declared.lists.Lists.{Lists}
 use Rattle.cc_vm.specs.declared.registers.Frame.{Frame}
 use Rattle.cc_vm.specs.declared.registers.Registers.{Registers}
@@ -50,10 +45,10 @@ module _ (k : RawCode) (p : Part) (args : List ℤ) where
   at-start : List Grant → Ran
   at-start grants = goes_on k (begins p.entry (cells_at_start p args) (left_at_start grants))
 
-  too-many : most_cells < p.cells → (grants : List Grant) → process k (Some p) args grants ≡ Asks (request.Fault Cells)
+  pub too-many : most_cells < p.cells → (grants : List Grant) → process k (Some p) args grants ≡ Asks (request.Fault Cells)
   too-many h grants = ap (λ (b : Bool). if b then Asks (request.Fault Cells) else (if nat_lt p.cells p.args then Asks (request.Fault Index) else goes_on k (begins p.entry (cells_at_start p args) (left_at_start grants)))) (less-true most_cells p.cells h)
 
-  lacks-cells : p.cells ≤ most_cells → p.cells < p.args → (grants : List Grant) → process k (Some p) args grants ≡ Asks (request.Fault Index)
+  pub lacks-cells : p.cells ≤ most_cells → p.cells < p.args → (grants : List Grant) → process k (Some p) args grants ≡ Asks (request.Fault Index)
   lacks-cells m h grants =
       ap (λ (b : Bool). if b then Asks (request.Fault Cells) else (if nat_lt p.cells p.args then Asks (request.Fault Index) else goes_on k (begins p.entry (cells_at_start p args) (left_at_start grants)))) (less-false most_cells p.cells m)
       ∙ ap (λ (b : Bool). if b then Asks (request.Fault Index) else goes_on k (begins p.entry (cells_at_start p args) (left_at_start grants))) (less-true p.cells p.args h)
@@ -97,13 +92,7 @@ module _ (k : RawCode) (p : Part) (args : List ℤ) where
         }
 
 -- a process of a kind, as the machine runs it
-module _ (k : RawCode) (verified : IsVerified k) (kind : ℕ) (p : Part) (there : slice_get k.kinds kind ≡ Some p) (args : List ℤ) (long : length args ≡ p.args) (pauses : ℕ) where
-  pub ends-many : most_cells < p.cells → EndsAlone k kind args pauses (Asked (request.Fault Cells))
-  ends-many h = (0, omega arith, (ap (λ (o : Option Part). process k o args (Go ∷ [])) there ∙ too-many k p args h (Go ∷ []), tt))
-
-  pub ends-lacking : p.cells ≤ most_cells → p.cells < p.args → EndsAlone k kind args pauses (Asked (request.Fault Index))
-  ends-lacking m h = (0, omega arith, (ap (λ (o : Option Part). process k o args (Go ∷ [])) there ∙ lacks-cells k p args m h (Go ∷ []), tt))
-
+module _ (k : RawCode) (verified : IsVerified k) (kind : ℕ) (p : Part) (there : slice_get k.kinds kind ≡ Some p) (args : List ℤ) (long : length args ≡ p.args) where
   module _ (most : p.cells ≤ most_cells) (among : p.args ≤ p.cells) (room : ℕ) (l : Lists) (starts : StartsWith p args room l) where
     pub started-ready : IsReady k room l
     started-ready =
@@ -111,22 +100,19 @@ module _ (k : RawCode) (verified : IsVerified k) (kind : ℕ) (p : Part) (there 
         (subst (λ (r : Registers). Ready k room l.stack.items l.cells.items [] r) (sym starts.registers)
         (first-ready k p args most among long l.stack.items l.cells.items starts.cells verified kind there room (let e : length l.stack.items ≡ room = starts.stack in omega (arith, e))))
 
-    started-follows : Follows k (process k (slice_get k.kinds kind) args) (Go ∷ []) (kept_state l [])
+    pub started-follows : Follows k (process k (slice_get k.kinds kind) args) (Go ∷ []) (kept_state l [])
     started-follows =
         subst (λ (o : Option Part). Follows k (process k o args) (Go ∷ []) (kept_state l [])) (sym there)
         (subst (λ (F : List Frame). Follows k (process k (Some p) args) (Go ∷ []) (state_of l.registers l.stack.items l.cells.items F [])) (sym starts.frames)
         (subst (λ (r : Registers). Follows k (process k (Some p) args) (Go ∷ []) (state_of r l.stack.items l.cells.items [] [])) (sym starts.registers)
         (first-follows k p args most among long l.stack.items l.cells.items starts.cells)))
 
-    pub ends-started : (e : Ending) → EndsWithin k pauses l e → EndsAlone k kind args pauses e
-    ends-started e h = (h.0, h.1, h.2 (process k (slice_get k.kinds kind) args) (Go ∷ []) [] started-follows)
-
 -- what a process asks that stands before a `Tick` without a tick
 module _ (k : RawCode) (l : Lists) (offers : List (ℕ × Alt)) where
   abbrev kept : State
   kept = kept_state l offers
 
-  tick-stops : slice_get k.instrs l.registers.at ≡ Some instr.Tick → l.registers.ticks ≡ 0 → step k (with_grants kept []) ≡ Stops (Asks request.Pause)
+  pub tick-stops : slice_get k.instrs l.registers.at ≡ Some instr.Tick → l.registers.ticks ≡ 0 → step k (with_grants kept []) ≡ Stops (Asks request.Pause)
   tick-stops here none =
       ap (λ (o : Option Instr). stepped k o (with_grants kept [])) here
       ∙ ap within_bound (
@@ -134,40 +120,8 @@ module _ (k : RawCode) (l : Lists) (offers : List (ℕ × Alt)) where
       ∙ popped-is kept.stack [] 0 (worked_on k instr.Tick (with_grants kept [])) refl
       ∙ ap (λ (t : ℕ). after true (with_grants kept []) kept.stack (and_then (spent t kept.store (record { grants = []; ticks = l.registers.ticks })) (λ _. go_to (l.registers.at + 1) []))) none)
 
-module _ (k : RawCode) (l : Lists) (i : Instr) (here : slice_get k.instrs l.registers.at ≡ Some i) where
-  pause-is : (j : Instr) (t : ℕ) → IsPause j t → (j ≡ instr.Tick) × (t ≡ 0)
-  pause-is instr.Tick zero h = (refl, refl)
-  pause-is instr.Tick (suc t) h = absurd h
-  pause-is j t h = absurd h
-
-  tick-here : IsPause i l.registers.ticks → slice_get k.instrs l.registers.at ≡ Some instr.Tick
-  tick-here h = here ∙ ap (λ (j : Instr). Some j) (pause-is i l.registers.ticks h).0
-
-  pub pause-ends : IsPause i l.registers.ticks → EndsFrom k l Paused
-  pause-ends h process fed offers follows =
-      follows-stop k process fed (kept_state l offers) follows (Asks request.Pause) (tick-stops k l offers (tick-here h) (pause-is i l.registers.ticks h).1)
-
-  pub pause-waits : IsPause i l.registers.ticks → WaitsAt k l Paused
-  pause-waits h = (tick-here h, (pause-is i l.registers.ticks h).1)
-
-pub no-waits : (k : RawCode) (l : Lists) (o : Option Request) (i : Instr) → WaitsAt k l (ending_of o i)
-no-waits k l None i = tt
-no-waits k l (Some q) i = tt
-
--- after a run to an instruction
-module _ (k : RawCode) (room : ℕ) (a b : Lists) (ready : IsReady k room b) (came : GoOn k a b) where
-  pub slice-ends : (e : Ending) → EndsFrom k b e → EndsFrom k a e
-  slice-ends e h process fed offers follows = h process fed offers (came process fed offers follows)
-
-  pub slice-after : (e : Ending) → WaitsAt k b e → AfterSlice k room a b e
-  slice-after Paused h = record { ready = ready; tick = h.0; none = h.1; came = came }
-  slice-after e h = tt
-
 -- after the grant that ends a pause
 module _ (k : RawCode) (verified : IsVerified k) (room : ℕ) (S C : List ℤ) (F : List Frame) (r : Registers) (ready : Ready k room S C F r) (here : slice_get k.instrs r.at ≡ Some instr.Tick) (none : r.ticks ≡ 0) where
-  pub low-tick : r.at < most_instructions
-  low-tick = (verified r.at rule.Size).each instr.Tick here
-
   abbrev stack : List ℤ
   stack = between r.bottom r.top S
 
@@ -187,7 +141,7 @@ module _ (k : RawCode) (verified : IsVerified k) (room : ℕ) (S C : List ℤ) (
   tick-answered : NextIsAnsweredInFull k (with_grants (state_of r S C F []) (Go ∷ []))
   tick-answered i there asks = absurd (subst AsksValue (some-same i instr.Tick (sym there ∙ here)) asks)
 
-  ticked-ready : Ready k room S C F (ticked_again r)
+  pub ticked-ready : Ready k room S C F (ticked_again r)
   ticked-ready =
       record {
         stands = subst (StandsAfter k Kind) (ticked [] Go []) (step-stands k verified Kind (with_grants (state_of r S C F []) (Go ∷ [])) recount tick-answered);
@@ -204,61 +158,5 @@ module _ (k : RawCode) (verified : IsVerified k) (room : ℕ) (S C : List ℤ) (
         few = omega arith;
       }
 
-  ticked-follows : (process : List Grant → Ran) (fed : List Grant) (offers : List (ℕ × Alt)) (g : Grant) → Follows k process fed (state_of r S C F offers) → Follows k process (fed ++ g ∷ []) (state_of (ticked_again r) S C F offers)
+  pub ticked-follows : (process : List Grant → Ran) (fed : List Grant) (offers : List (ℕ × Alt)) (g : Grant) → Follows k process fed (state_of r S C F offers) → Follows k process (fed ++ g ∷ []) (state_of (ticked_again r) S C F offers)
   ticked-follows process fed offers g follows = follows-grant k process fed (state_of r S C F offers) follows g (state_of (ticked_again r) S C F offers) (λ rest. ticked offers g rest)
-
--- whatever process followed the state before follows that after these many grants more
-abbrev pub CameAfter : RawCode → ℕ → Lists → Lists → Type 0
-CameAfter k n a b =
-    (process : List Grant → Ran) (fed : List Grant) (offers : List (ℕ × Alt)) → Follows k process fed (kept_state a offers) → Follows k process (fed ++ replicate n Go) (kept_state b offers)
-
-one-more : (fed : List Grant) (n : ℕ) → (fed ++ replicate n Go) ++ Go ∷ [] ≡ fed ++ replicate (n + 1) Go
-one-more fed n = append_assoc fed (replicate n Go) (Go ∷ []) ∙ ap (λ (gs : List Grant). fed ++ gs) (replicate-append-replicate n 1 Go)
-
-module _ (k : RawCode) (room : ℕ) (a b : Lists) (n : ℕ) (came : CameAfter k n a b) where
-  pub ends-after : (pauses : ℕ) (e : Ending) → CameThrough n pauses e → EndsFrom k b e → EndsWithin k pauses a e
-  ends-after pauses e through h = (n, through, λ process fed offers follows. h process (fed ++ replicate n Go) offers (came process fed offers follows))
-
-  module _ (verified : IsVerified k) (c d : Lists) (paused : IsPaused k room b c) (stack : d.stack.items ≡ c.stack.items) (cells : d.cells.items ≡ c.cells.items) (frames : d.frames.items ≡ c.frames.items)
-      (registers : d.registers ≡ ticked_again c.registers) where
-    same-lists : (P : List ℤ → List ℤ → List Frame → Registers → Type 0) → P c.stack.items c.cells.items c.frames.items (ticked_again c.registers) → P d.stack.items d.cells.items d.frames.items d.registers
-    same-lists P h =
-        subst (λ (S : List ℤ). P S d.cells.items d.frames.items d.registers) (sym stack)
-        (subst (λ (C : List ℤ). P c.stack.items C d.frames.items d.registers) (sym cells)
-        (subst (λ (F : List Frame). P c.stack.items c.cells.items F d.registers) (sym frames)
-        (subst (λ (r : Registers). P c.stack.items c.cells.items c.frames.items r) (sym registers) h)))
-
-    pub resumed-ready : IsReady k room d
-    resumed-ready = same-lists (λ S C F r. Ready k room S C F r) (ticked-ready k verified room c.stack.items c.cells.items c.frames.items c.registers paused.ready paused.tick paused.none)
-
-    pub resumed-after : CameAfter k (n + 1) a d
-    resumed-after process fed offers follows =
-        subst (λ (gs : List Grant). Follows k process gs (kept_state d offers)) (one-more fed n)
-        (same-lists (λ S C F r. Follows k process ((fed ++ replicate n Go) ++ Go ∷ []) (state_of r S C F offers))
-        (ticked-follows k verified room c.stack.items c.cells.items c.frames.items c.registers paused.ready paused.tick paused.none process (fed ++ replicate n Go) offers Go
-        (paused.came process (fed ++ replicate n Go) offers (came process fed offers follows))))
-
-pub came-none : (k : RawCode) (a : Lists) → CameAfter k 0 a a
-came-none k a process fed offers follows = subst (λ (gs : List Grant). Follows k process gs (kept_state a offers)) (sym (append-nil fed)) follows
-
-pub through-all : (n : ℕ) (e : Ending) → CameThrough n n e
-through-all n Paused = refl
-through-all n e = omega arith
-
-pub through-some : (n most : ℕ) (e : Ending) → (e ≡ Paused → ⊥) → n ≤ most → CameThrough n most e
-through-some n most Paused h l = absurd (h refl)
-through-some n most e h l = l
-
--- the slice after the last of the pauses
-module _ (k : RawCode) (room : ℕ) (a b : Lists) (n : ℕ) (came : CameAfter k n a b) (pauses : ℕ) (all : n ≡ pauses) where
-  pub ends-last : {E : Type 0} (result : Result Ending E) → IfOk result (EndsFrom k b) → IfOk result (EndsWithin k pauses a)
-  ends-last (Ok e) h = ends-after k room a b n came pauses e (subst (λ (m : ℕ). CameThrough n m e) all (through-all n e)) h
-  ends-last (Err e) h = tt
-
--- verified code has a `main` without arguments
-main-by : (k : RawCode) (kinds : List Part) → HasMain kinds → (0 < length kinds) × ((p : Part) → slice_get kinds 0 ≡ Some p → 0 ≡ p.args)
-main-by k [] h = absurd h
-main-by k (q ∷ kinds) h = (omega arith, λ p e. sym (subst (λ (x : Part). x.args ≡ 0) (let f : q ≡ p = cc in f) h))
-
-pub main-there : (k : RawCode) → IsVerified k → (0 < length k.kinds) × ((p : Part) → slice_get k.kinds 0 ≡ Some p → 0 ≡ p.args)
-main-there k verified = main-by k k.kinds ((verified 0 rule.Table).whole refl)

@@ -30,7 +30,7 @@ use Rattle.cc_vm.proofs.Acts.{Did, Fits, Keeps, acts-did, top-none}
 use Rattle.cc_vm.proofs.Between.{taken, below-put, between-put, between-split, length-between, length-with}
 use Rattle.cc_vm.proofs.Fragments.{popped-is}
 use Rattle.cc_vm.specs.Machine.{Acts, AreCallers, AreWithin, Calls, CallsIf, Enters, HasPlace, HasRoomFor, back_to, between, callers, frame_of, no_frame, state_of}
-use Rattle.cc_vm.specs.Running.{Finds, Follows, GoesOn, IsRoom, Lies, Moves, Ready, RunsTo}
+use Rattle.cc_vm.specs.Running.{FallsTo, Finds, Follows, GoesOn, IsLeftAt, IsRoom, Lies, Moves, Ready, RunsTo, StopsLeft, work}
 use Rattle.cc_vm.specs.declared.registers.Frame.{Frame}
 use Rattle.cc_vm.specs.declared.registers.Registers.{Registers}
 use Rattle.cc_vm.specs.declared.registers.Stop.{Stop}
@@ -153,7 +153,7 @@ module _ (k : RawCode) (verified : IsVerified k) (room : ℕ) (enough : IsRoom k
   step-is i here offers rest = ap (λ (o : Option Instr). stepped k o (with_grants (state_of r S C F offers) rest)) here
 
   -- what stays lies as before
-  lies-still : (S' C' : List ℤ) (r' : Registers) → Keeps S C r S' C' r' → Lies room S' C' F r'
+  pub lies-still : (S' C' : List ℤ) (r' : Registers) → Keeps S C r S' C' r' → Lies room S' C' F r'
   lies-still S' C' r' h =
       record {
         callers = subst (λ (c : ℕ). AreCallers F c (take r'.bottom S') (take r'.first C')) (sym h.calls)
@@ -384,8 +384,11 @@ module _ (k : RawCode) (verified : IsVerified k) (room : ℕ) (enough : IsRoom k
   none-answered : NextIsAnsweredInFull k (state_of r S C F [])
   none-answered i here asks vs rest f = absurd cc
 
-  below-bound : (s : State) → s.count ≤ most_steps → within_bound (Goes s) ≡ Goes s
+  pub below-bound : (s : State) → s.count ≤ most_steps → within_bound (Goes s) ≡ Goes s
   below-bound s b = ap (λ (t : Bool). if t then Goes s else Stops (Asks (request.Fault Depth))) (at-most-true s.count most_steps b)
+
+  pub bound-stops : (s : State) → most_steps < s.count → within_bound (Goes s) ≡ Stops (Asks (request.Fault Depth))
+  bound-stops s b = ap (λ (t : Bool). if t then Goes s else Stops (Asks (request.Fault Depth))) (at-most-false s.count most_steps b)
 
   module _ (S' C' : List ℤ) (F' : List Frame) (r' : Registers) (moves : Moves k room S C F r S' C' F' r' None) where
     pub ready-next : r'.count ≤ most_steps → Ready k room S' C' F' r'
@@ -408,10 +411,6 @@ module _ (k : RawCode) (verified : IsVerified k) (room : ℕ) (enough : IsRoom k
       → (process : List Grant → Ran) (fed : List Grant) (offers : List (ℕ × Alt)) → Follows k process fed (state_of r S C F offers) → process fed ≡ Asks (request.Fault kind)
   fault-ends S' C' F' r' kind moves process fed offers follows = follows-stop k process fed (state_of r S C F offers) follows (Asks (request.Fault kind)) (moves offers [])
 
-  -- what is left of the instructions that may still come
-  abbrev work : Registers → ℕ
-  work q = q.ticks * 131073 + (most_steps - q.count)
-
   there : (i : Instr) × (slice_get k.instrs r.at ≡ Some i)
   there = elim ((slice_get_cases k.instrs r.at).1) [ inl h ↦ (h.0, h.2) | inr h ↦ absurd (let b : r.at < length k.instrs = ready.stands.address in omega (arith, b, h.0)) ]
 
@@ -422,6 +421,12 @@ module _ (k : RawCode) (verified : IsVerified k) (room : ℕ) (enough : IsRoom k
         | inl h ↦ (let t : r'.ticks ≡ r.ticks = ap (λ (l : Left). l.ticks) h.1 in omega (arith, t, h.0, b))
         | inr h ↦ omega (arith, h.0, h.1)
       ]
+
+  pub stops-falls : (r0 : Registers) → work r ≤ work r0 → (S' C' : List ℤ) (F' : List Frame) (r' : Registers) (stop : Stop) → Moves k room S C F r S' C' F' r' (Some stop)
+      → StopsLeft k r (Some stop) → FallsTo k r0 r' stop
+  stops-falls r0 h S' C' F' r' (Fault kind) m l = tt
+  stops-falls r0 h S' C' F' r' Other m l = subst (λ (q : Registers). (work q ≤ work r0) × IsLeftAt k q) (sym m.3) (h, l)
+  stops-falls r0 h S' C' F' r' Room m l = subst (λ (q : Registers). work q ≤ work r0) (sym m.3) h
 
   -- what comes of a stop, where the process came here from another state
   module _ (S0 C0 : List ℤ) (F0 : List Frame) (r0 : Registers) (came : GoesOn k S0 C0 F0 r0 S C F r) (S' C' : List ℤ) (F' : List Frame) (r' : Registers) where

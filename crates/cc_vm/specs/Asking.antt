@@ -1,5 +1,5 @@
 -- What an instruction asks whose operands are in place.
-use Rattle.std.specs.Prelude.{◌≡◌, ℕ, zero, suc, ◌-◌, ℤ, List, [], ◌∷◌, Option, Some, None, Result, Ok, Err}
+use Rattle.std.specs.Prelude.{◌≡◌, ℕ, ◌-◌, ℤ, List, [], ◌∷◌, Option, Some, None, Result, Ok, Err}
 use Rattle.cc_base.specs.Numbers.{byte_of, callee}
 use Rattle.cc_base.specs.declared.names.FaultKind.{FaultKind}
 use Rattle.cc_base.specs.declared.names.Pid.{Pid}
@@ -36,9 +36,3 @@ Requested k instr.GetByte S top o = o ≡ Some request.Get
 Requested k (instr.Format f) S top o = o ≡ Some (request.Print (formatted (format_at k f) (between (top - conversions (format_at k f)) top S)))
 Requested k instr.End S top o = o ≡ Some request.Done
 Requested k i S top o = o ≡ None
-
--- a `Tick` is next, and no tick is left
-abbrev pub IsPause : Instr → ℕ → Type 0
-IsPause instr.Tick zero = Unit {0}
-IsPause instr.Tick (suc n) = ⊥
-IsPause i n = ⊥

@@ -1,7 +1,13 @@
 pub mod Asking
-pub mod Endings
 pub mod Fragments
+pub mod Going
+pub mod Granting
+pub mod Images
+pub mod Lawful
 pub mod Lists
 pub mod Machine
+pub mod Offering
 pub mod Printing
+pub mod Processes
 pub mod Running
+pub mod Selecting

@@ -1,5 +1,5 @@
 -- What the machine keeps of a process, and what comes of it.
-use Rattle.std.specs.Prelude.{◌≡◌, ℕ, ◌+◌, ◌-◌, ℤ, List, [], ◌++◌, length, Option, Some, None}
+use Rattle.std.specs.Prelude.{◌≡◌, ℕ, ◌+◌, ◌-◌, ◌≤◌, ℤ, List, [], ◌++◌, length, Option, Some, None}
 use Rattle.cc_base.specs.Limits.{ticks_granted}
 use Rattle.cc_base.specs.declared.alternatives.Alt.{Alt}
 use Rattle.cc_base.specs.declared.names.FaultKind.{FaultKind}
@@ -7,7 +7,7 @@ use Rattle.cc_code.specs.Steps.{State, cells_at_start}
 use Rattle.cc_code.specs.declared.code.Part.{Part}
 use Rattle.cc_code.specs.declared.code.RawCode.{RawCode}
 use Rattle.cc_vm.specs.Machine.{state_of}
-use Rattle.cc_vm.specs.Running.{GoesOn, Ready, RunsTo}
+use Rattle.cc_vm.specs.Running.{GoesOn, IsLeftAt, Ready, RunsTo, work}
 use Rattle.cc_vm.specs.declared.lists.Lists.{Lists}
 use Rattle.cc_vm.specs.declared.registers.Registers.{Registers}
 use Rattle.cc_vm.specs.declared.registers.Stop.{Stop}
@@ -32,6 +32,11 @@ RunsOn k room a b stop =
 abbrev pub ComesTo : RawCode → ℕ → Lists → Lists → Option FaultKind → Type 0
 ComesTo k room a b (Some kind) = RunsOn k room a b (Fault kind)
 ComesTo k room a b None = RunsOn k room a b Other
+
+-- where it comes to an instruction that the loop does not perform, no more may come than before
+abbrev pub FallsIf : RawCode → Lists → Lists → Option FaultKind → Type 0
+FallsIf k a b (Some kind) = Unit {0}
+FallsIf k a b None = (work b.registers ≤ work a.registers) × IsLeftAt k b.registers
 
 -- how long the lists are together
 abbrev pub size : Lists → ℕ

@@ -1,5 +1,5 @@
 -- When the machine is ready for its next instruction, and what comes of it.
-use Rattle.std.specs.Prelude.{◌≡◌, ℕ, ◌+◌, ◌-◌, ◌<◌, ◌≤◌, ℤ, List, [], ◌++◌, length, take, slice_get, Option, Some, None}
+use Rattle.std.specs.Prelude.{◌≡◌, ℕ, ◌+◌, ◌-◌, ◌*◌, ◌<◌, ◌≤◌, ℤ, List, [], ◌++◌, length, take, slice_get, Option, Some, None}
 use Rattle.cc_base.specs.Limits.{most_cells, most_steps}
 use Rattle.cc_base.specs.declared.alternatives.Alt.{Alt}
 use Rattle.cc_base.specs.declared.request.Grant.{Grant}
@@ -16,7 +16,7 @@ use Rattle.cc_vm.specs.Machine.{AreCallers, state_of}
 use Rattle.cc_vm.specs.declared.registers.Frame.{Frame}
 use Rattle.cc_vm.specs.declared.registers.Registers.{Registers}
 use Rattle.cc_vm.specs.declared.registers.Stop.{Stop}
-use Rattle.cc_vm.specs.declared.registers.Stop.TheVariants.{Fault}
+use Rattle.cc_vm.specs.declared.registers.Stop.TheVariants.{Fault, Other, Room}
 
 -- so many cells are enough for the operands of a part before and after each instruction
 abbrev pub IsRoom : RawCode → ℕ → Type 0
@@ -71,3 +71,43 @@ RunsTo k room S C F r S' C' F' r' (Fault kind) =
     (process : List Grant → Ran) (fed : List Grant) (offers : List (ℕ × Alt))
     → Follows k process fed (state_of r S C F offers) → process fed ≡ Asks (request.Fault kind)
 RunsTo k room S C F r S' C' F' r' stop = Ready k room S' C' F' r' × GoesOn k S C F r S' C' F' r'
+
+-- how many instructions may still come before the next grant
+abbrev pub work : Registers → ℕ
+work r = r.ticks * 131073 + (most_steps - r.count)
+
+-- the loop does not perform it: it asks, opens an alternative or ends, or it is a `Tick` and no tick is left
+abbrev pub IsLeft : Instr → ℕ → Type 0
+IsLeft instr.Tick ticks = ticks ≡ 0
+IsLeft (instr.Create kind) ticks = Unit {0}
+IsLeft (instr.Ask t) ticks = Unit {0}
+IsLeft (instr.AskWithin t a) ticks = Unit {0}
+IsLeft (instr.Send t) ticks = Unit {0}
+IsLeft instr.SelBegin ticks = Unit {0}
+IsLeft (instr.OfferAccept i s) ticks = Unit {0}
+IsLeft (instr.OfferAfter i) ticks = Unit {0}
+IsLeft (instr.OfferNow i) ticks = Unit {0}
+IsLeft (instr.OfferEnd i) ticks = Unit {0}
+IsLeft (instr.SelWait j) ticks = Unit {0}
+IsLeft instr.Wait ticks = Unit {0}
+IsLeft (instr.Reply n) ticks = Unit {0}
+IsLeft instr.PutByte ticks = Unit {0}
+IsLeft instr.GetByte ticks = Unit {0}
+IsLeft (instr.Format f) ticks = Unit {0}
+IsLeft instr.Yield ticks = Unit {0}
+IsLeft instr.End ticks = Unit {0}
+IsLeft i ticks = ⊥
+
+abbrev pub IsLeftAt : RawCode → Registers → Type 0
+IsLeftAt k r = (i : Instr) → slice_get k.instrs r.at ≡ Some i → IsLeft i r.ticks
+
+-- where an instruction stops the loop, it is one that the loop does not perform
+abbrev pub StopsLeft : RawCode → Registers → Option Stop → Type 0
+StopsLeft k r (Some Other) = IsLeftAt k r
+StopsLeft k r stop = Unit {0}
+
+-- where it stops before an instruction, no more may come than before
+abbrev pub FallsTo : RawCode → Registers → Registers → Stop → Type 0
+FallsTo k r r' (Fault kind) = Unit {0}
+FallsTo k r r' Other = (work r' ≤ work r) × IsLeftAt k r'
+FallsTo k r r' Room = work r' ≤ work r

@@ -54,7 +54,7 @@ fn replace(
 
 /// Where so many variable cells from an offset on stand among the variables, if all are there.
 #[inline(always)]
-fn locate_from(cells: &[i64], r: &Registers, offset: u64, count: usize) -> Option<usize>
+pub(crate) fn locate_from(cells: &[i64], r: &Registers, offset: u64, count: usize) -> Option<usize>
     requires first { r.now.first ≤ r.now.end }
     requires end { r.now.end ≤ length cells.now }
     ensures { result ≡ located (pos offset) count (between r.now.first r.now.end cells.now) }

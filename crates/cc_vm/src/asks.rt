@@ -29,7 +29,12 @@ const NO_SHAPE: Shape = Shape {
 };
 
 /// The operands from a place up to before another.
-fn operands(alloc: Global, stack: &[i64], from: usize, to: usize) -> Result<Cells, Memory>
+pub(crate) fn operands(
+    alloc: Global,
+    stack: &[i64],
+    from: usize,
+    to: usize,
+) -> Result<Cells, Memory>
     requires order { from ≤ to }
     requires within { to ≤ length stack.now }
     ensures { IfOk result (λ cells. cells ≡ between from to stack.now) }
@@ -42,7 +47,7 @@ fn operands(alloc: Global, stack: &[i64], from: usize, to: usize) -> Result<Cell
 }
 
 /// The kind of this number, or one with nothing.
-fn kind_at(raw: &RawCode, kind: u32) -> Part
+pub(crate) fn kind_at(raw: &RawCode, kind: u32) -> Part
     ensures { result ≡ kind_at raw.now kind }
 {
     match raw.kinds.get(kind as usize) {
@@ -52,7 +57,7 @@ fn kind_at(raw: &RawCode, kind: u32) -> Part
 }
 
 /// The transaction of this number, or one with nothing.
-fn shape_at(raw: &RawCode, trans: u32) -> Shape
+pub(crate) fn shape_at(raw: &RawCode, trans: u32) -> Shape
     ensures { result ≡ shape_at raw.now trans }
 {
     match raw.transactions.get(trans as usize) {
@@ -62,7 +67,7 @@ fn shape_at(raw: &RawCode, trans: u32) -> Shape
 }
 
 /// The format of this number, or an empty one.
-fn format_at<'r>(raw: &'r RawCode, format: u32) -> &'r [u8]
+pub(crate) fn format_at<'r>(raw: &'r RawCode, format: u32) -> &'r [u8]
     ensures { result.now ≡ format_at raw.now format }
 {
     match raw.formats.get(format as usize) {

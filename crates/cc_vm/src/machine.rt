@@ -6,7 +6,7 @@
 ghost use Rattle.std.specs.Prelude.{◌≡◌, ◌+◌, ◌-◌, ◌<◌, ◌≤◌, Some, length, slice_get};
 ghost use Rattle.cc_code.specs.Rules.{IsVerified};
 ghost use Rattle.cc_vm.specs.Machine.{AreWithin, HasPlace};
-ghost use Rattle.cc_vm.specs.Running.{Finds, IsRoom, Moves, Ready, RunsTo};
+ghost use Rattle.cc_vm.specs.Running.{FallsTo, Finds, IsRoom, Moves, Ready, RunsTo, StopsLeft};
 
 use crate::arms::perform;
 use crate::calls::{call, go_back};
@@ -76,7 +76,8 @@ fn step(
     requires verified { IsVerified raw.now }
     requires room { IsRoom raw.now room }
     requires ready { Ready raw.now room stack.old cells.old frames.old r.old }
-    ensures { Moves raw.now room stack.old cells.old frames.old r.old stack.new cells.new frames.new r.new result }
+    ensures moves { Moves raw.now room stack.old cells.old frames.old r.old stack.new cells.new frames.new r.new result }
+    ensures left { StopsLeft raw.now r.old result }
 {
     let instr = next_instr(code, raw, room, stack, cells, frames, r);
     match instr {
@@ -106,7 +107,8 @@ pub(crate) fn run(
     requires verified { IsVerified raw.now }
     requires room { IsRoom raw.now room }
     requires ready { Ready raw.now room stack.old cells.old frames.old registers.old }
-    ensures { RunsTo raw.now room stack.old cells.old frames.old registers.old stack.new cells.new frames.new registers.new result }
+    ensures runs { RunsTo raw.now room stack.old cells.old frames.old registers.old stack.new cells.new frames.new registers.new result }
+    ensures falls { FallsTo raw.now registers.old registers.new result }
 {
     let mut r = *registers;
     'instructions: loop {

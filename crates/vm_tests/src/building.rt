@@ -1,5 +1,5 @@
 use cc_base::{Bytes, Cells, Memory, Shape};
-use cc_code::{EnvironmentPart, Instr, Part, RawCode, Site};
+use cc_code::{EnvironmentPart, Instr, Part, RawCode, Site, TableEntry};
 use sqlite_items::Items;
 use std::alloc::{AllocError, Global};
 
@@ -64,6 +64,47 @@ pub fn with_format(raw: RawCode, format: Bytes) -> Result<RawCode, AllocError> {
 pub fn with_kind(raw: RawCode, kind: Part) -> Result<RawCode, AllocError> {
     let mut raw = raw;
     raw.kinds.push(kind)?;
+    Ok(raw)
+}
+
+/// Code of these instructions with the heights before them, with a `main` at address 0 that has so many variable cells.
+pub fn rows(alloc: Global, cells: u64, all: &[(Instr, u32)]) -> Result<RawCode, AllocError> {
+    let instrs = instrs_of(alloc, all)?;
+    let heights = heights_of(alloc, all)?;
+    code(alloc, cells, instrs, heights)
+}
+
+fn instrs_of(alloc: Global, all: &[(Instr, u32)]) -> Result<Items<Instr>, AllocError> {
+    let mut instrs = Items::new(alloc);
+    for row in all {
+        instrs.push(row.0)?;
+    }
+    Ok(instrs)
+}
+
+fn heights_of(alloc: Global, all: &[(Instr, u32)]) -> Result<Items<u32>, AllocError> {
+    let mut heights = Items::new(alloc);
+    for row in all {
+        heights.push(row.1)?;
+    }
+    Ok(heights)
+}
+
+/// The same with one more transaction, whose callers wait for a value of so many cells.
+pub fn with_call(raw: RawCode, args: u32, value: u32) -> Result<RawCode, AllocError> {
+    let mut raw = raw;
+    raw.transactions.push(Shape {
+        is_async: false,
+        args,
+        value,
+    })?;
+    Ok(raw)
+}
+
+/// The same with one more table.
+pub fn with_table(raw: RawCode, table: Items<TableEntry>) -> Result<RawCode, AllocError> {
+    let mut raw = raw;
+    raw.tables.push(table)?;
     Ok(raw)
 }
 

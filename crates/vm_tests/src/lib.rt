@@ -4,8 +4,14 @@
 #[cfg(test)]
 mod building;
 #[cfg(test)]
+mod driving;
+#[cfg(test)]
+mod meetings;
+#[cfg(test)]
 mod programs;
 #[cfg(test)]
 mod ranks;
 #[cfg(test)]
 mod requests;
+#[cfg(test)]
+mod table;

@@ -1,43 +1,21 @@
 //! How far `main` comes, for each instruction that asks nothing, for calls, for each fault that they meet, and for pauses.
 use crate::building::{code, heights, instrs, with_function};
-use cc_base::{FaultKind, NumberType, Request};
+use crate::driving::run;
+use cc_base::NumberType;
 use cc_code::{Instr, Part, RawCode, verify};
-use cc_vm::{Ending, run_main};
 use std::alloc::{AllocError, Global};
 use std::rt::HostRuntime;
 use std::test::Fail;
 
-/// A word for how far `main` comes with 2 pauses.
+/// A word for how far `main` comes with 2 pauses at most: 0 for its end, 1 for a third pause, and for a fault 2 more than its number.
 fn ending(alloc: Global, raw: RawCode) -> Result<u8, Fail> {
-    let code = verify(alloc, raw)?;
-    Ok(match run_main(alloc, &code, 2)? {
-        Ending::Paused => 1,
-        Ending::Asks(request) => word_of(&request),
-        Ending::At(_) => 2,
+    let ran = run(alloc, verify(alloc, raw)?, &[], 3, &[])?;
+    Ok(match ran.asked.last() {
+        Some((_, (0, _, _))) => 0,
+        Some((_, (9, kind, _))) => u8::try_from(*kind).unwrap_or(0).wrapping_add(2),
+        Some((_, (10, _, _))) => 1,
+        _ => 99,
     })
-}
-
-/// A word for a request.
-fn word_of(request: &Request) -> u8 {
-    match request {
-        Request::Done => 0,
-        Request::Fault {
-            kind: FaultKind::DivideByZero,
-        } => 3,
-        Request::Fault {
-            kind: FaultKind::Overflow,
-        } => 4,
-        Request::Fault {
-            kind: FaultKind::Index,
-        } => 5,
-        Request::Fault {
-            kind: FaultKind::Depth,
-        } => 6,
-        Request::Fault {
-            kind: FaultKind::Cells,
-        } => 7,
-        _ => 9,
-    }
 }
 
 /// Whether the one operand that these instructions leave is this number: 0, and 3 where it is another.

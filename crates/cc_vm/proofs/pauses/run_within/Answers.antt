@@ -21,4 +21,4 @@ returns-clause-runs c =
     (subst (λ (S : List ℤ). RunsTo c.args.raw.now c.args.room S a.cells.items a.frames.items a.registers c.run.new.stack c.run.new.cells c.run.new.frames c.run.new.registers c.run.result) old_stack
     (subst (λ (C : List ℤ). RunsTo c.args.raw.now c.args.room c.as_mut_slice.result.now C a.frames.items a.registers c.run.new.stack c.run.new.cells c.run.new.frames c.run.new.registers c.run.result) old_cells
     (subst (λ (F : List Frame). RunsTo c.args.raw.now c.args.room c.as_mut_slice.result.now c.as_mut_slice-2.result.now F a.registers c.run.new.stack c.run.new.cells c.run.new.frames c.run.new.registers c.run.result) old_frames
-    c.run.ensures)))))
+    c.run.ensures.runs)))))
