@@ -11,3 +11,6 @@ pub mod After
 pub mod Clauses
 pub mod Sites
 pub mod Statements
+pub mod Goods
+pub mod Items
+pub mod Passing

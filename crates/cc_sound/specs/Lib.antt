@@ -1,3 +1,4 @@
+pub mod Sizes
 pub mod Formed
 pub mod Fits
 pub mod Typing

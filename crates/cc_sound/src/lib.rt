@@ -4,4 +4,4 @@
 
 mod laws;
 
-pub use laws::{clauses_are_pure, expressions_are_typed, statements_are_typed};
+pub use laws::{clauses_are_pure, expressions_are_typed, programs_are_typed, statements_are_typed};

@@ -1,0 +1,6 @@
+use Rattle.cc_sound.proofs.Items.{pieces-found}
+use Rattle.cc_sound.proofs.Passing.{in-passes}
+use Rattle.cc_sound.proofs.laws.programs_are_typed.Goals as goal
+
+pub returns : goal.returns
+returns c = ?
