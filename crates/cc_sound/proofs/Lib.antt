@@ -14,3 +14,4 @@ pub mod Statements
 pub mod Goods
 pub mod Items
 pub mod Passing
+pub mod Levels

@@ -1,3 +1,4 @@
+use Rattle.cc_sound.proofs.Levels.{level-after}
 use Rattle.cc_sound.proofs.Items.{pieces-found}
 use Rattle.cc_sound.proofs.Passing.{in-passes}
 use Rattle.cc_sound.proofs.laws.programs_are_typed.Goals as goal
