@@ -15,3 +15,5 @@ pub mod Goods
 pub mod Items
 pub mod Passing
 pub mod Levels
+pub mod Starts
+pub mod Moves

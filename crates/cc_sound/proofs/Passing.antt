@@ -33,11 +33,11 @@ pub record Passes (r : Role) (s q : Scope) (n : ℕ) : Type 0 where
   pub variables : length q.variables ≤ length s.variables + n
   pub sites : length q.sites ≤ length s.sites + n
 
-passes-same : (r : Role) (s : Scope) → Passes r s s 0
+pub passes-same : (r : Role) (s : Scope) → Passes r s s 0
 passes-same r s =
     record { grows = grows-same s; still = λ e. refl; variables = omega arith; sites = omega arith }
 
-passes-on : (r : Role) (s q u : Scope) (n m : ℕ) → Passes r s q n → Passes r q u m → Passes r s u (n + m)
+pub passes-on : (r : Role) (s q u : Scope) (n m : ℕ) → Passes r s q n → Passes r q u m → Passes r s u (n + m)
 passes-on r s q u n m h i =
     record {
       grows = grows-on s q u h.grows i.grows;
@@ -51,7 +51,7 @@ passes-left r s q n h =
     record { grows = grows-left s q h.grows; still = h.still; variables = h.variables; sites = h.sites }
 
 -- no more than this
-passes-most : (r : Role) (s q : Scope) (n m : ℕ) → n ≤ m → Passes r s q n → Passes r s q m
+pub passes-most : (r : Role) (s q : Scope) (n m : ℕ) → n ≤ m → Passes r s q n → Passes r s q m
 passes-most r s q n m le i =
     record { grows = i.grows; still = i.still; variables = let a = i.variables in omega (arith, a, le); sites = let a = i.sites in omega (arith, a, le) }
 
@@ -72,7 +72,7 @@ passes-declared r n s x o =
       sites = let e = ap length (declared-sites n s x o) in omega (arith, e);
     }
 
-passes-names : (r : Role) (n : ℕ) (ts : Judged (List DataType)) (k : ℕ) (s : Scope) (xs : List Identifier) → Passes r s (after_names n ts k s xs) (length xs)
+pub passes-names : (r : Role) (n : ℕ) (ts : Judged (List DataType)) (k : ℕ) (s : Scope) (xs : List Identifier) → Passes r s (after_names n ts k s xs) (length xs)
 passes-names r n ts k s [] = passes-same r s
 passes-names r n ts k s (x ∷ xs) =
     passes-most r s (after_names n ts k s (x ∷ xs)) (1 + length xs) (suc (length xs)) (omega arith)

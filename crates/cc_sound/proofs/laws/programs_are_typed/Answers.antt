@@ -1,3 +1,5 @@
+use Rattle.cc_sound.proofs.Moves.{items-move}
+use Rattle.cc_sound.proofs.Starts.{level-start}
 use Rattle.cc_sound.proofs.Levels.{level-after}
 use Rattle.cc_sound.proofs.Items.{pieces-found}
 use Rattle.cc_sound.proofs.Passing.{in-passes}
