@@ -17,3 +17,4 @@ pub mod Passing
 pub mod Levels
 pub mod Starts
 pub mod Moves
+pub mod Structures
