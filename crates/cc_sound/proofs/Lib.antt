@@ -18,3 +18,4 @@ pub mod Levels
 pub mod Starts
 pub mod Moves
 pub mod Structures
+pub mod Parameters
