@@ -19,3 +19,4 @@ pub mod Starts
 pub mod Moves
 pub mod Structures
 pub mod Parameters
+pub mod Functions
