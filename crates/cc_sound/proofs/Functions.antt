@@ -34,16 +34,16 @@ use Rattle.cc_sound.proofs.Parameters.{here-start, names-add, names-fresh, param
 use Rattle.cc_sound.proofs.Passing.{in-passes}
 use Rattle.cc_sound.specs.Fits.{IsFront}
 
-good-equal : {A : Type 0} {j : Judged A} {v w : A} → j ≡ Good v → j ≡ Good w → v ≡ w
+pub good-equal : {A : Type 0} {j : Judged A} {v w : A} → j ≡ Good v → j ≡ Good w → v ≡ w
 good-equal e f = cc
 
-ok-equal : {A : Type 0} {r : Result A FaultAt} {v w : A} → r ≡ Ok v → r ≡ Ok w → v ≡ w
+pub ok-equal : {A : Type 0} {r : Result A FaultAt} {v w : A} → r ≡ Ok v → r ≡ Ok w → v ≡ w
 ok-equal e f = cc
 
-some-equal : {A : Type 0} {o : Option A} {v w : A} → o ≡ Some v → o ≡ Some w → v ≡ w
+pub some-equal : {A : Type 0} {o : Option A} {v w : A} → o ≡ Some v → o ≡ Some w → v ≡ w
 some-equal e f = cc
 
-take-none : {A : Type 0} (xs : List A) → take 0 xs ≡ []
+pub take-none : {A : Type 0} (xs : List A) → take 0 xs ≡ []
 take-none [] = refl
 take-none (x ∷ xs) = refl
 

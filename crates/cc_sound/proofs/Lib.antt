@@ -20,3 +20,4 @@ pub mod Moves
 pub mod Structures
 pub mod Parameters
 pub mod Functions
+pub mod Specified
