@@ -21,3 +21,4 @@ pub mod Structures
 pub mod Parameters
 pub mod Functions
 pub mod Specified
+pub mod Entered

@@ -53,10 +53,10 @@ kinds-count s n (i ∷ rest) =
 abbrev pub IsCounted : KindHead → Type 0
 IsCounted h = (us : List DataType) → h.parameters ≡ Ok us → length us ≡ h.count
 
-none-there : {A : Type 0} (n : ℕ) {a : A} → slice_get [] n ≡ Some a → ⊥
+pub none-there : {A : Type 0} (n : ℕ) {a : A} → slice_get [] n ≡ Some a → ⊥
 none-there n e = cc
 
-some-same : {A : Type 0} {a c : A} → Some a ≡ Some c → a ≡ c
+pub some-same : {A : Type 0} {a c : A} → Some a ≡ Some c → a ≡ c
 some-same e = cc
 
 pub counted-at : (s : Scope) (n : ℕ) (items : List Item) (j : ℕ) (h : KindHead) → slice_get (kind_heads s n items) j ≡ Some h → IsCounted h

@@ -1,3 +1,4 @@
+use Rattle.cc_sound.proofs.Entered.{kind-at}
 use Rattle.cc_sound.proofs.Specified.{body-once}
 use Rattle.cc_sound.proofs.Functions.{head-at}
 use Rattle.cc_sound.proofs.Parameters.{parameters-inside}
