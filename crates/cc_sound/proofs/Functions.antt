@@ -82,7 +82,7 @@ module _ (t : Text) (p : Parts) where
   IsHeadOf r f =
       (g : Signature) → r ≡ Ok g → (take f.parameters f.variables ≡ g.parameters) × (f.result ≡ g.result)
 
-  abbrev function_of : Passed → TypeName → Identifier → List Parameter → List Statement → FunctionParts → Function
+  abbrev pub function_of : Passed → TypeName → Identifier → List Parameter → List Statement → FunctionParts → Function
   function_of b result x ps block v =
       record { parameters = length ps; variables = (function_variables t b result x ps block).variables; result = v.0.1.0.result; body = v.1 }
 

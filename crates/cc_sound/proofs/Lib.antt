@@ -22,3 +22,5 @@ pub mod Parameters
 pub mod Functions
 pub mod Specified
 pub mod Entered
+pub mod Transactions
+pub mod Blocks

@@ -168,7 +168,7 @@ like-function s xs x None = refl
 like-function s xs x (Some n) =
     like-if (nat_eq n.scope items_scope) s (with_name items_scope s x n.meaning) (with_name items_scope (with_these s xs) x n.meaning) xs refl
 
-item-like : (s : Scope) (xs : List Site) (i : Item) → after_item (with_these s xs) i ≡ with_these (after_item s i) xs
+pub item-like : (s : Scope) (xs : List Site) (i : Item) → after_item (with_these s xs) i ≡ with_these (after_item s i) xs
 item-like s xs (item.Structure x fields) =
     like-if (is_there (entry_at s.structures_named x)) s (with_structure (with_structure_name s x (outcome (map (next_structure s) (structure s x fields)))) fields (found (structure s x fields))) (with_structure (with_structure_name (with_these s xs) x (outcome (map (next_structure s) (structure s x fields)))) fields (found (structure s x fields))) xs
     (like-structure s xs x (outcome (map (next_structure s) (structure s x fields))) fields (found (structure s x fields)))

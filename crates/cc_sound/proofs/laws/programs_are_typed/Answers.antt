@@ -1,3 +1,5 @@
+use Rattle.cc_sound.proofs.Blocks.{in-sound}
+use Rattle.cc_sound.proofs.Transactions.{kinds-typed}
 use Rattle.cc_sound.proofs.Entered.{kind-at}
 use Rattle.cc_sound.proofs.Specified.{body-once}
 use Rattle.cc_sound.proofs.Functions.{head-at}
