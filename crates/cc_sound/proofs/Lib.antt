@@ -24,3 +24,6 @@ pub mod Specified
 pub mod Entered
 pub mod Transactions
 pub mod Blocks
+pub mod Once
+pub mod Wholes
+pub mod Texts

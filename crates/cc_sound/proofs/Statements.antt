@@ -127,7 +127,7 @@ process-body p kind result variables (role.Main o) q h = tt
 process-body p kind result variables (role.Body (Ok k)) q h = ap is_process_body h.0 ∙ left _ _ h.2
 process-body p kind result variables (role.Body (Err f)) q h = absurd h
 
-holds-itself : {A : Type 0} (j : Judged A) → Holds (λ v. j ≡ Good v) j
+pub holds-itself : {A : Type 0} (j : Judged A) → Holds (λ v. j ≡ Good v) j
 holds-itself (Good v) = refl
 holds-itself (Bad own f fs) = tt
 

@@ -119,7 +119,7 @@ item-sites : (s : Scope) (i : Item) → (after_item s i).sites ≡ s.sites
 item-sites s i = ap (λ (q : Scope). q.sites) (item-like s s.sites i)
 
 module _ (t : Text) (p : Parts) (all : List Item) (whole : TextFits t p) (counted_heads : AreCounted t p) (whole_heads : (k : ℕ) (h : KindHead) (us : List DataType) → slice_get t.kinds k ≡ Some h → h.parameters ≡ Ok us → are_parameters p us ≡ true)
-  (names : List (Option ℕ)) (alone : (x y : Identifier) (k : ℕ) → entry_at names x ≡ Some k → entry_at names y ≡ Some k → y.name ≡ x.name) (some : 0 < length p.kinds) (head : (k : ℕ) → is_process_type p k ≡ true → (h : KindHead) × (slice_get t.kinds k ≡ Some h)) where
+    (names : List (Option ℕ)) (alone : (x y : Identifier) (k : ℕ) → entry_at names x ≡ Some k → entry_at names y ≡ Some k → y.name ≡ x.name) (some : 0 < length p.kinds) (head : (k : ℕ) → is_process_type p k ≡ true → (h : KindHead) × (slice_get t.kinds k ≡ Some h)) where
   -- each kind of these pieces stands in the program under its number
   abbrev pub ArePlaced : List Piece → Type 0
   ArePlaced ys =
@@ -171,7 +171,7 @@ module _ (t : Text) (p : Parts) (all : List Item) (whole : TextFits t p) (counte
       → (d : Bool) → nat_eq x.name 0 ≡ d → IsSoundText p b.scope.sites sites ys → IsSoundText p b.scope.sites sites ((if d then OneKind 0 (main_of t p b result x ps block v) else OneFunction (function_of t p b result x ps block v)) ∷ ys)
   function-case b result x ps block rest v ys found h sites true e i =
       let made = main-typed t p whole b result x ps block v h.level (at-fits b (item.Function result x ps block ∷ rest) h) found e (left _ _ h.form) (let m = h.few in omega (arith, m)) (at-sites b (item.Function result x ps block ∷ rest) h) in
-      sound-main p b.scope.sites sites (main_of t p b result x ps block v) ys (made.0, λ z. (main-few x (length ps) v.0.1.1.0 e found.few, made.1)) some i
+      sound-main p b.scope.sites sites (main_of t p b result x ps block v) ys (made.0, λ z. (main-few t p x (length ps) v.0.1.1.0 e found.few, made.1)) some i
   function-case b result x ps block rest v ys found h sites false e i =
       sound-function p b.scope.sites sites (function_of t p b result x ps block v) ys
       (function-typed t p whole b result x ps block v h.level (at-fits b (item.Function result x ps block ∷ rest) h) found e (left _ _ h.form) (let m = h.few in omega (arith, m)) (at-sites b (item.Function result x ps block ∷ rest) h)) i

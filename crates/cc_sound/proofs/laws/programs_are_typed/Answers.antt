@@ -1,3 +1,6 @@
+use Rattle.cc_sound.proofs.Texts.{program-typed}
+use Rattle.cc_sound.proofs.Once.{each-once}
+use Rattle.cc_sound.proofs.Wholes.{items-sound}
 use Rattle.cc_sound.proofs.Blocks.{in-sound}
 use Rattle.cc_sound.proofs.Transactions.{kinds-typed}
 use Rattle.cc_sound.proofs.Entered.{kind-at}
