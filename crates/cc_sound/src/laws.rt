@@ -13,7 +13,7 @@ ghost use Rattle.cc_faults.specs.Scopes.{Scope, Text};
 ghost use Rattle.cc_faults.specs.Statements.{after, judged};
 ghost use Rattle.cc_sound.specs.Fits.{Ends, Inside, IsFront, ScopeFits, Stands, TextFits};
 ghost use Rattle.cc_sound.specs.Formed.{is_formed, is_formed_statement, is_formed_text};
-ghost use Rattle.cc_sound.specs.Typing.{IsFound, IsSound};
+ghost use Rattle.cc_sound.specs.Typing.{IsFound, IsSound, MeansTyped};
 
 use cc_faults::{Around, Phrase, Plain, Statement};
 
@@ -48,9 +48,10 @@ pub fn statements_are_typed(around: Around, statement: &Statement)
     let _ = statement;
 }
 
-/// A text without a fault means a typed program.
+/// What is found of a text is typed, as `Program::of` wants it; a text without a fault means a program, which is typed.
 pub fn programs_are_typed(tree: &Plain)
     ensures typed { is_formed_text tree.now ≡ true → Holds (λ p. is_typed_program p ≡ true) (program tree.now) }
+    ensures means { is_formed_text tree.now ≡ true → MeansTyped (program tree.now) }
 {
     let _ = tree;
 }

@@ -1,5 +1,4 @@
-//! What is found of a text without a fault is typed: expressions, clauses of accepts, and statements. Declarations and the
-//! whole program are to come.
+//! What is found of a text without a fault is typed: expressions, clauses of accepts, statements, and the whole program.
 #![tactic(auto)]
 
 mod laws;
