@@ -1,8 +1,8 @@
 -- Functions and bodies without a fault are typed.
-use Rattle.std.proofs.Common.{◌≡◌, ℕ, zero, suc, ◌+◌, ◌≤◌, ◌<◌, Bool, true, false, ◌&&◌, ◌||◌, List, [], ◌∷◌, ◌++◌, length, take, Option, Some, None, Result, Ok, Err, refl, ap, sym, subst, ◌∙◌, arith}
-use Rattle.std.proofs.lemmas.Bool.{and_from, le-leb, or_left}
+use Rattle.std.proofs.Common.{◌≡◌, ℕ, zero, suc, ◌+◌, ◌≤◌, Bool, true, false, ◌||◌, List, [], ◌∷◌, length, Option, Some, None, Result, Ok, refl, ap, sym, subst, ◌∙◌, arith}
+use Rattle.std.proofs.lemmas.Bool.{and_from, le-leb}
 use Rattle.std.specs.List.{list_all}
-use Rattle.std.specs.Prelude.{if◌then◌else◌, nat_eq, nat_le, slice_get}
+use Rattle.std.specs.Prelude.{if◌then◌else◌, nat_eq, slice_get}
 use Rattle.cc_typed.proofs.Tables.{left, right}
 use Rattle.cc_typed.specs.Accepts.{sites_of_body}
 use Rattle.cc_typed.specs.KnownTypes.{are_parameters, is_known, is_process_type, is_whole}
@@ -11,17 +11,14 @@ use Rattle.cc_typed.specs.Parts.{Parts}
 use Rattle.cc_typed.specs.Typed as typed
 use Rattle.cc_typed.specs.Typed.{Surroundings, are_few, are_variables, in_kind, is_typed_function, is_typed_kind, is_typed_site, is_typed_statement, most_things}
 use Rattle.cc_typed.specs.Types.{is_void}
-use Rattle.cc_typed.specs.declared.tree.Function.{Function}
-use Rattle.cc_typed.specs.declared.tree.Kind.{Kind}
-use Rattle.cc_typed.specs.declared.tree.Statement.{Statement as TypedStatement}
 use Rattle.cc_typed.specs.declared.types.DataType.{DataType}
 use Rattle.cc_typed.specs.declared.types.DataType.TheVariants.{Void}
 use Rattle.cc_faults.proofs.Holds.{Holds}
 use Rattle.cc_faults.specs.Declarations.{signature, types_of}
-use Rattle.cc_faults.specs.Judged.{Judged, Good, both, in_front, map, outcome}
-use Rattle.cc_faults.specs.Programs.{BodyParts, FunctionParts, Passed, after_body, body_role, body_types, in_body, in_function, kind_of_body, no_variables, result_of, role_of}
-use Rattle.cc_faults.specs.Scopes.{Scope, Text, entry_at, outermost}
-use Rattle.cc_faults.specs.Statements.{after, after_in, after_names, judged, judged_in}
+use Rattle.cc_faults.specs.Judged.{Good, map, outcome}
+use Rattle.cc_faults.specs.Programs.{BodyParts, FunctionParts, Passed, after_body, body_role, body_types, in_body, in_function, no_variables, result_of, role_of}
+use Rattle.cc_faults.specs.Scopes.{Scope, Text, outermost}
+use Rattle.cc_faults.specs.Statements.{after, after_in, judged, judged_in}
 use Rattle.cc_faults.specs.declared.fault.FaultAt.{FaultAt}
 use Rattle.cc_faults.specs.declared.plain.Identifier.{Identifier}
 use Rattle.cc_faults.specs.declared.plain.Parameter.{Parameter}
@@ -29,15 +26,13 @@ use Rattle.cc_faults.specs.declared.plain.Statement.{Statement}
 use Rattle.cc_faults.specs.declared.plain.TypeName.{TypeName}
 use Rattle.cc_faults.specs.declared.scope.Around.{Around}
 use Rattle.cc_faults.specs.declared.scope.KindHead.{KindHead}
-use Rattle.cc_faults.specs.declared.scope.Role.{Role}
 use Rattle.cc_faults.specs.declared.scope.Role.TheVariants as role
-use Rattle.cc_faults.specs.declared.scope.Signature.{Signature}
 use Rattle.cc_sound.proofs.Accepts.{holds-at}
 use Rattle.cc_sound.proofs.After.{Goes, after-goes, goes-on, goes-same, names-go}
-use Rattle.cc_sound.proofs.Entered.{AreCounted, body-front, body_of, main-few, main_of}
-use Rattle.cc_sound.proofs.Functions.{function-front, function_of, good-equal, ok-equal, take-front}
+use Rattle.cc_sound.proofs.Entered.{AreCounted, body-front, body_of, main_of}
+use Rattle.cc_sound.proofs.Functions.{function-front, function_of, good-equal, take-front}
 use Rattle.cc_sound.proofs.Goods.{good-map, good-outcome}
-use Rattle.cc_sound.proofs.Growth.{Grows, front-length, front-on, front-same}
+use Rattle.cc_sound.proofs.Growth.{front-length, front-same}
 use Rattle.cc_sound.proofs.Items.{BodyFound, FunctionFound, function_variables}
 use Rattle.cc_sound.proofs.Levels.{Level}
 use Rattle.cc_sound.proofs.Moves.{body-passes, names-alike}

@@ -1,5 +1,5 @@
 -- The variables of a body begin with the parameters of its specification.
-use Rattle.std.proofs.Common.{◌≡◌, ℕ, zero, suc, ◌+◌, ◌≤◌, ◌<◌, Bool, true, false, ◌||◌, List, [], ◌∷◌, ◌++◌, length, take, drop, Option, Some, None, Result, Ok, Err, refl, ap, sym, subst, ◌∙◌, arith}
+use Rattle.std.proofs.Common.{◌≡◌, ℕ, ◌+◌, Bool, true, false, ◌||◌, List, [], ◌∷◌, length, take, drop, Some, Ok, refl, ap, sym, subst, ◌∙◌, arith}
 use Rattle.std.proofs.lemmas.Bool.{eqb-true}
 use Rattle.std.specs.Prelude.{if◌then◌else◌, nat_eq, slice_get}
 use Rattle.cc_typed.specs.Parts.{Parts}
@@ -8,10 +8,10 @@ use Rattle.cc_typed.specs.declared.tree.Kind.{Kind}
 use Rattle.cc_typed.specs.declared.types.DataType.{DataType}
 use Rattle.cc_typed.specs.declared.types.DataType.TheVariants.{Void}
 use Rattle.cc_faults.specs.Declarations.{main_head}
-use Rattle.cc_faults.specs.Judged.{Judged, Good, both, checked, known, map, outcome, second}
-use Rattle.cc_faults.specs.Programs.{BodyParts, FunctionParts, Passed, Piece, NoPiece, OneFunction, OneKind, Transactions, after_body, and_item, body_made, body_role, body_types, few_for_main, function_made, in_body, kind_among, kind_of_body, no_variables, types_of_names}
+use Rattle.cc_faults.specs.Judged.{Good, both, known, second}
+use Rattle.cc_faults.specs.Programs.{BodyParts, FunctionParts, Passed, Piece, NoPiece, OneFunction, OneKind, Transactions, after_body, and_item, body_role, body_types, few_for_main, in_body, kind_among, kind_of_body, no_variables, types_of_names}
 use Rattle.cc_faults.specs.Rows.{as_many, as_many_names}
-use Rattle.cc_faults.specs.Scopes.{Scope, Text, outermost}
+use Rattle.cc_faults.specs.Scopes.{Text, outermost}
 use Rattle.cc_faults.specs.declared.fault.TypeKind.TheVariants as kind
 use Rattle.cc_faults.specs.declared.plain.Identifier.{Identifier}
 use Rattle.cc_faults.specs.declared.plain.Item.{Item}
@@ -23,7 +23,7 @@ use Rattle.cc_faults.specs.declared.scope.KindHead.{KindHead}
 use Rattle.cc_sound.proofs.Functions.{good-equal, ok-equal, some-equal, take-front, take-none}
 use Rattle.cc_sound.proofs.Goods.{good-both, good-checked, good-known, good-map, good-unless}
 use Rattle.cc_sound.proofs.Heads.{false-true}
-use Rattle.cc_sound.proofs.Items.{ArePieces, BodyFound, FunctionFound, function_variables}
+use Rattle.cc_sound.proofs.Items.{ArePieces, BodyFound, function_variables}
 use Rattle.cc_sound.proofs.Levels.{Level, level-after}
 use Rattle.cc_sound.proofs.Parameters.{here-start, names-add, names-fresh}
 use Rattle.cc_sound.proofs.Passing.{in-passes}

@@ -1,6 +1,5 @@
 -- Functions and process types have the heads that are known of the whole text.
-use Rattle.std.proofs.Common.{◌≡◌, ℕ, zero, suc, ◌+◌, ◌≤◌, ◌<◌, Bool, true, false, ◌&&◌, ◌||◌, List, [], ◌∷◌, ◌++◌, length, take, drop, Option, Some, None, Result, Ok, Err, refl, ap, sym, subst, ◌∙◌, length-append, arith}
-use Rattle.std.proofs.lemmas.Bool.{eqb-true, or_left, or_right}
+use Rattle.std.proofs.Common.{◌≡◌, ℕ, zero, suc, Bool, true, false, List, [], ◌∷◌, ◌++◌, length, take, Option, Some, Result, Ok, refl, ap, sym, subst, ◌∙◌}
 use Rattle.std.specs.Prelude.{if◌then◌else◌, nat_eq, slice_get}
 use Rattle.cc_typed.proofs.Partings.{type-same}
 use Rattle.cc_typed.specs.Parts.{Parts}
@@ -9,12 +8,11 @@ use Rattle.cc_typed.specs.Types.{is_same}
 use Rattle.cc_typed.specs.declared.tree.Function.{Function}
 use Rattle.cc_typed.specs.declared.tree.Kind.{Kind}
 use Rattle.cc_typed.specs.declared.types.DataType.{DataType}
-use Rattle.cc_typed.specs.declared.types.DataType.TheVariants.{Void}
-use Rattle.cc_faults.specs.Declarations.{after_item, function_heads, kind_heads, kind_of, main_head, parameters, signature, transactions_in, types_of}
-use Rattle.cc_faults.specs.Judged.{Judged, Good, both, checked, each, known, map, outcome, second}
-use Rattle.cc_faults.specs.Programs.{BodyParts, FunctionParts, Passed, Piece, NoPiece, OneFunction, OneKind, Transactions, after_body, and_item, body_made, body_types, few_for_main, function_made, functions_among, in_body, in_function, kind_of_body, names_in, no_variables, role_of, scope_after, types_of_names}
-use Rattle.cc_faults.specs.Rows.{as_many, as_many_names, few_cells, value_type, with_specification}
-use Rattle.cc_faults.specs.Scopes.{Scope, Text, entry_at, outermost}
+use Rattle.cc_faults.specs.Declarations.{after_item, function_heads, parameters, signature, types_of}
+use Rattle.cc_faults.specs.Judged.{Judged, Good, each, outcome}
+use Rattle.cc_faults.specs.Programs.{FunctionParts, Passed, Piece, OneFunction, OneKind, and_item, functions_among, in_function, names_in, no_variables, role_of, scope_after}
+use Rattle.cc_faults.specs.Rows.{few_cells, value_type}
+use Rattle.cc_faults.specs.Scopes.{Scope, Text, outermost}
 use Rattle.cc_faults.specs.declared.fault.FaultAt.{FaultAt}
 use Rattle.cc_faults.specs.declared.fault.TypeKind.TheVariants as kind
 use Rattle.cc_faults.specs.declared.plain.Identifier.{Identifier}
@@ -23,14 +21,12 @@ use Rattle.cc_faults.specs.declared.plain.Item.TheVariants as item
 use Rattle.cc_faults.specs.declared.plain.Parameter.{Parameter}
 use Rattle.cc_faults.specs.declared.plain.Statement.{Statement}
 use Rattle.cc_faults.specs.declared.plain.TypeName.{TypeName}
-use Rattle.cc_faults.specs.declared.scope.KindHead.{KindHead}
 use Rattle.cc_faults.specs.declared.scope.Signature.{Signature}
-use Rattle.cc_sound.proofs.Goods.{AreEach, each-length, good-both, good-checked, good-each, good-known, good-map, good-outcome, good-unless}
-use Rattle.cc_sound.proofs.Growth.{front-on}
-use Rattle.cc_sound.proofs.Items.{ArePieces, BodyFound, FunctionFound, function_variables}
+use Rattle.cc_sound.proofs.Goods.{AreEach, each-length, good-checked, good-each, good-outcome, good-unless}
+use Rattle.cc_sound.proofs.Items.{ArePieces, FunctionFound, function_variables}
 use Rattle.cc_sound.proofs.Levels.{Level, level-after}
-use Rattle.cc_sound.proofs.Moves.{functions-behind, kinds-behind}
-use Rattle.cc_sound.proofs.Parameters.{here-start, names-add, names-fresh, parameters-add, signature-made}
+use Rattle.cc_sound.proofs.Moves.{functions-behind}
+use Rattle.cc_sound.proofs.Parameters.{here-start, names-fresh, parameters-add, signature-made}
 use Rattle.cc_sound.proofs.Passing.{in-passes}
 use Rattle.cc_sound.specs.Fits.{IsFront}
 

@@ -1,6 +1,5 @@
 -- What was found without a fault was found of parts without a fault.
-use Rattle.std.proofs.Common.{◌≡◌, Bool, true, false, List, [], ◌∷◌, ◌++◌, ℕ, zero, suc, length, Option, Some, None, Result, Ok, Err, refl, ap, sym, subst, ◌∙◌}
-use Rattle.std.specs.Prelude.{slice_get}
+use Rattle.std.proofs.Common.{◌≡◌, Bool, true, false, List, [], ◌∷◌, suc, length, None, Result, Ok, Err, refl, ap, sym, subst}
 use Rattle.cc_base.specs.declared.names.Place.{Place}
 use Rattle.cc_faults.specs.Judged.{Judged, Good, Bad, answer, map, checked, both, each, each_after, found, in_front, known, outcome}
 use Rattle.cc_faults.specs.Rows.{unless}

@@ -1,14 +1,12 @@
 -- What each item of a text without a fault adds to the program, and of what it was found.
-use Rattle.std.proofs.Common.{◌≡◌, suc, List, [], ◌∷◌, ℕ, length, refl, ap, sym, subst, ◌∙◌}
+use Rattle.std.proofs.Common.{◌≡◌, suc, List, [], length}
 use Rattle.cc_faults.specs.Declarations.{parameters, signature, structure, constants, unused}
-use Rattle.cc_faults.specs.Judged.{Judged, Good, both, each_after, map, after_each}
-use Rattle.cc_faults.specs.Programs.{BodyParts, FunctionParts, Passed, Piece, NoPiece, OneFunction, OneKind, Transactions, SpecificationParts, after_body, and_item, and_transaction, body_made, body_role, body_types, few_for_main, fresh_enumeration, function_made, has_body, in_body, in_function, item_in, kind_of_body, names_in, names_once, no_piece, role_of, specification_made, transaction}
+use Rattle.cc_faults.specs.Judged.{Good, both, each_after}
+use Rattle.cc_faults.specs.Programs.{BodyParts, FunctionParts, Passed, Piece, NoPiece, Transactions, SpecificationParts, after_body, and_item, and_transaction, body_made, body_role, body_types, few_for_main, fresh_enumeration, function_made, has_body, in_body, in_function, item_in, kind_of_body, names_in, names_once, no_piece, role_of, specification_made, transaction}
 use Rattle.cc_faults.specs.Rows.{fresh, with_body}
 use Rattle.cc_faults.specs.Scopes.{Scope, Text, entry_at, is_here, is_there, meaning_at, outermost}
 use Rattle.cc_faults.specs.Declarations.{items_scope}
 use Rattle.cc_faults.specs.Statements.{after_in, judged_in}
-use Rattle.cc_faults.specs.declared.plain.Field.{Field}
-use Rattle.cc_faults.specs.declared.plain.Constant.{Constant}
 use Rattle.cc_faults.specs.declared.plain.Identifier.{Identifier}
 use Rattle.cc_faults.specs.declared.plain.Item.{Item}
 use Rattle.cc_faults.specs.declared.plain.Item.TheVariants as item

@@ -1,21 +1,19 @@
 -- What is visible among the items of a text: names lead to what is there.
-use Rattle.std.proofs.Common.{◌≡◌, ◌⊎◌, inl, inr, ℕ, zero, suc, ◌+◌, ◌≤◌, ◌<◌, Bool, true, false, List, [], ◌∷◌, ◌++◌, length, Option, Some, None, Result, Ok, Err, ℤ, refl, ap, sym, subst, ◌∙◌, length-append, replicate, arith}
-use Rattle.std.proofs.lemmas.Bool.{and_from, lt-ltb}
-use Rattle.std.specs.Prelude.{if◌then◌else◌, nat_eq, nat_lt, slice_get, slice_set}
+use Rattle.std.proofs.Common.{◌≡◌, ◌⊎◌, inl, inr, ℕ, zero, suc, ◌+◌, ◌<◌, Bool, true, false, List, [], ◌∷◌, ◌++◌, length, Option, Some, None, Result, Ok, Err, ℤ, refl, ap, sym, subst, ◌∙◌, length-append, arith}
+use Rattle.std.specs.Prelude.{if◌then◌else◌, nat_eq, nat_lt, slice_get}
 use Rattle.cc_base.specs.Numbers.{fits}
 use Rattle.cc_typed.specs.KnownTypes.{is_process_type}
 use Rattle.cc_typed.specs.Parts.{Parts}
 use Rattle.cc_typed.specs.Table.{cells_in, fields_of}
 use Rattle.cc_typed.specs.Types.{Int}
 use Rattle.cc_typed.specs.declared.types.DataType.{DataType}
-use Rattle.cc_typed.specs.declared.types.Field.{Field as TypedField}
 use Rattle.cc_typed.specs.declared.types.Structure.{Structure}
 use Rattle.cc_faults.proofs.Holds.{Holds, holds-checked}
-use Rattle.cc_faults.specs.Declarations.{Before, after_constant, after_constants, after_enumeration, after_function, after_item, after_structure, and_constant, and_field, announced, announced_by, at_start, before_constants, constant_meaning, constant_value, constants, field, field_names, function_heads, functions_in, head_of, int_type, items_scope, kinds_in, laid_out, named_enumeration, next_structure, nothing, specified, specified_by, structure, structure_of, text_of, value_set, with_enumeration_name, with_first, with_process, with_structure, with_structure_name}
+use Rattle.cc_faults.specs.Declarations.{Before, after_constant, after_constants, after_function, after_item, and_constant, and_field, before_constants, constant_meaning, constant_value, constants, field, field_names, int_type, items_scope, laid_out, named_enumeration, next_structure, structure, structure_of, value_set, with_enumeration_name, with_structure, with_structure_name}
 use Rattle.cc_faults.specs.Judged.{Judged, Good, Bad, after_each, answer, each_after, found, map, outcome}
-use Rattle.cc_faults.specs.Programs.{Passed, and_item, scope_after}
+use Rattle.cc_faults.specs.Programs.{scope_after}
 use Rattle.cc_faults.specs.Rows.{names_of, structure_not_large, value_in_range}
-use Rattle.cc_faults.specs.Scopes.{Scope, Text, entry_at, is_here, is_there, meaning_at, or_none, with_name}
+use Rattle.cc_faults.specs.Scopes.{Scope, Text, entry_at, is_here, is_there, meaning_at, with_name}
 use Rattle.cc_faults.specs.declared.fault.FaultAt.{FaultAt}
 use Rattle.cc_faults.specs.declared.fault.TypeKind.TheVariants as kind
 use Rattle.cc_faults.specs.declared.plain.Constant.{Constant}
@@ -23,15 +21,13 @@ use Rattle.cc_faults.specs.declared.plain.Field.{Field}
 use Rattle.cc_faults.specs.declared.plain.Identifier.{Identifier}
 use Rattle.cc_faults.specs.declared.plain.Item.{Item}
 use Rattle.cc_faults.specs.declared.plain.Item.TheVariants as item
-use Rattle.cc_faults.specs.declared.plain.Plain.{Plain}
 use Rattle.cc_faults.specs.declared.scope.Meaning.{Meaning}
 use Rattle.cc_faults.specs.declared.scope.Meaning.TheVariants as meaning
 use Rattle.cc_faults.specs.declared.scope.Named.{Named}
-use Rattle.cc_faults.specs.declared.scope.Signature.{Signature}
 use Rattle.cc_sound.proofs.Goods.{good-checked, good-map, good-outcome, good-unless, good-walk, walk-length}
 use Rattle.cc_sound.proofs.Growth.{entry-set, names-set}
 use Rattle.cc_sound.proofs.Rows.{holds-unless}
-use Rattle.cc_sound.proofs.Types.{holds-all, outcome-holds}
+use Rattle.cc_sound.proofs.Types.{holds-all}
 use Rattle.cc_sound.specs.Fits.{AreThere, IsFront, IsThere, ScopeFits}
 
 pub record Level (t : Text) (p : Parts) (s : Scope) : Type 0 where

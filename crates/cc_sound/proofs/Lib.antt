@@ -27,3 +27,4 @@ pub mod Blocks
 pub mod Once
 pub mod Wholes
 pub mod Texts
+pub mod Computed

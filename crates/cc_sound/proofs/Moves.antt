@@ -1,10 +1,10 @@
 -- What an item leaves for those behind it, and that what is declared at the level of items does not look at accepts.
-use Rattle.std.proofs.Common.{◌≡◌, ℕ, zero, suc, ◌+◌, ◌≤◌, Bool, true, false, List, [], ◌∷◌, ◌++◌, length, Option, Some, None, Result, Ok, Err, ℤ, refl, ap, sym, subst, ◌∙◌, length-append, arith}
+use Rattle.std.proofs.Common.{◌≡◌, ℕ, suc, ◌+◌, ◌≤◌, Bool, true, false, List, [], ◌∷◌, ◌++◌, length, Option, Some, None, Result, ℤ, refl, ap, sym, subst, ◌∙◌, length-append, arith}
 use Rattle.std.specs.Prelude.{if◌then◌else◌, nat_eq}
 use Rattle.cc_typed.specs.declared.tree.Site.{Site}
 use Rattle.cc_typed.specs.declared.types.DataType.{DataType}
 use Rattle.cc_typed.specs.declared.types.Structure.{Structure}
-use Rattle.cc_faults.specs.Declarations.{Before, after_constant, after_constants, after_enumeration, after_function, after_item, after_structure, and_constant, before_constants, constant, constant_in, constant_meaning, constant_value, constants, function_heads, head_of, int_type, items_scope, kind_heads, is_async, kind_of, kinds_in, named_enumeration, next_structure, parameters, structure, transaction_heads, transaction_signature, transactions_in, with_enumeration_name, with_structure, with_structure_name}
+use Rattle.cc_faults.specs.Declarations.{Before, after_constant, after_constants, after_enumeration, after_function, after_item, and_constant, before_constants, constant, constant_in, constant_meaning, constant_value, constants, function_heads, head_of, int_type, items_scope, kind_heads, is_async, kind_of, named_enumeration, next_structure, parameters, structure, transaction_heads, transaction_signature, transactions_in, with_enumeration_name, with_structure, with_structure_name}
 use Rattle.cc_faults.specs.Judged.{Judged, after_each, both, each_after, found, in_front, map, outcome}
 use Rattle.cc_faults.specs.Programs.{Passed, after_body, and_item, body_role, body_types, in_body, no_variables, scope_after}
 use Rattle.cc_faults.specs.Programs as programs
@@ -19,10 +19,7 @@ use Rattle.cc_faults.specs.declared.plain.Item.{Item}
 use Rattle.cc_faults.specs.declared.plain.Item.TheVariants as item
 use Rattle.cc_faults.specs.declared.plain.Statement.{Statement}
 use Rattle.cc_faults.specs.declared.plain.Transaction.{Transaction}
-use Rattle.cc_faults.specs.declared.scope.KindHead.{KindHead}
 use Rattle.cc_faults.specs.declared.scope.Named.{Named}
-use Rattle.cc_faults.specs.declared.scope.Role.{Role}
-use Rattle.cc_faults.specs.declared.scope.Signature.{Signature}
 use Rattle.cc_sound.proofs.Growth.{front-more, front-on, front-same}
 use Rattle.cc_sound.proofs.Passing.{Passes, in-passes, passes-names, passes-on}
 use Rattle.cc_sound.specs.Fits.{IsFront}

@@ -1,11 +1,9 @@
 -- Each site stands in one accept of the bodies, in whatever order the bodies are written.
-use Rattle.std.proofs.Common.{◌≡◌, ℕ, zero, suc, ◌+◌, ◌≤◌, ◌<◌, Bool, true, false, ◌&&◌, List, [], ◌∷◌, ◌++◌, length, refl, ap, sym, ◌∙◌, arith}
+use Rattle.std.proofs.Common.{◌≡◌, ℕ, zero, suc, ◌+◌, ◌≤◌, ◌<◌, Bool, true, false, List, [], ◌∷◌, ◌++◌, refl, ap, sym, ◌∙◌, arith}
 use Rattle.std.proofs.lemmas.Bool.{and_from, eq-eqb, eqb-true}
 use Rattle.std.specs.Prelude.{if◌then◌else◌, nat_eq}
 use Rattle.cc_typed.specs.Accepts.{are_once_from, sites_of_body, sites_of_kinds, times}
-use Rattle.cc_typed.specs.declared.tree.Function.{Function}
 use Rattle.cc_typed.specs.declared.tree.Kind.{Kind}
-use Rattle.cc_typed.specs.declared.tree.Transaction.{Transaction}
 use Rattle.cc_faults.specs.Programs.{Piece, NoPiece, OneFunction, OneKind, Transactions, kind_among, kinds_among}
 use Rattle.cc_sound.specs.Typing.{counted}
 

@@ -1,30 +1,27 @@
 -- Heads without a fault: the types of parameters, and parameters and names as variables.
-use Rattle.std.proofs.Common.{◌≡◌, ◌⊎◌, inl, inr, ℕ, zero, suc, ◌+◌, ◌≤◌, Bool, true, false, not, ◌&&◌, ◌||◌, List, [], ◌∷◌, ◌++◌, length, drop, Option, Some, None, Result, Ok, Err, refl, ap, sym, subst, ◌∙◌, append_assoc, append-nil, arith}
+use Rattle.std.proofs.Common.{◌≡◌, ◌⊎◌, inl, inr, ℕ, suc, ◌+◌, Bool, true, false, not, ◌||◌, List, [], ◌∷◌, ◌++◌, length, drop, Option, Some, None, Result, Ok, Err, refl, ap, sym, subst, ◌∙◌, append_assoc, append-nil, arith}
 use Rattle.std.proofs.lemmas.Bool.{and_from, eq-eqb, eqb-true, ltb-true, or_left, or_right}
 use Rattle.std.proofs.lemmas.List.{drop_all}
 use Rattle.std.specs.List.{list_all}
-use Rattle.std.specs.Prelude.{if◌then◌else◌, nat_eq, nat_le, nat_lt, slice_get}
+use Rattle.std.specs.Prelude.{if◌then◌else◌, nat_le}
 use Rattle.cc_base.specs.Limits.{most_parameter_cells}
-use Rattle.cc_typed.proofs.Tables.{left, right}
-use Rattle.cc_typed.specs.KnownTypes.{are_parameters, is_known, is_whole}
+use Rattle.cc_typed.specs.KnownTypes.{are_parameters, is_whole}
 use Rattle.cc_typed.specs.Parts.{Parts}
 use Rattle.cc_typed.specs.Table.{cells_in_all, is_below}
 use Rattle.cc_typed.specs.Types.{is_void}
 use Rattle.cc_typed.specs.declared.types.DataType.{DataType}
-use Rattle.cc_faults.proofs.Holds.{Holds}
 use Rattle.cc_faults.specs.Declarations.{and_name, parameters, signature, signature_of, types_of, unused}
-use Rattle.cc_faults.specs.Judged.{Judged, Good, both, each, each_after, map, outcome}
+use Rattle.cc_faults.specs.Judged.{Judged, Good, both, each, map, outcome}
 use Rattle.cc_faults.specs.Programs.{after_parameters, in_function, names_in, names_once, no_variables}
 use Rattle.cc_faults.specs.Programs as programs
 use Rattle.cc_faults.specs.Rows.{few_cells, value_type, written}
-use Rattle.cc_faults.specs.Scopes.{Scope, Text, declared, is_among, is_here, meaning_at, or_none, with_variable}
+use Rattle.cc_faults.specs.Scopes.{Scope, Text, declared, is_among, is_here, meaning_at, with_variable}
 use Rattle.cc_faults.specs.Statements.{kth}
 use Rattle.cc_faults.specs.declared.fault.FaultAt.{FaultAt}
 use Rattle.cc_faults.specs.declared.fault.TypeKind.TheVariants as kind
 use Rattle.cc_faults.specs.declared.plain.Identifier.{Identifier}
 use Rattle.cc_faults.specs.declared.plain.Parameter.{Parameter}
 use Rattle.cc_faults.specs.declared.plain.TypeName.{TypeName}
-use Rattle.cc_faults.specs.declared.scope.Meaning.{Meaning}
 use Rattle.cc_faults.specs.declared.scope.Meaning.TheVariants as meaning
 use Rattle.cc_faults.specs.declared.scope.Named.{Named}
 use Rattle.cc_faults.specs.declared.scope.Role.{Role}

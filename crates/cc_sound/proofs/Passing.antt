@@ -1,11 +1,10 @@
 -- What is left of a statement for those behind it: variables and accepts grow by no more than it declares, and accepts only in the body of
 -- a process type.
-use Rattle.std.proofs.Common.{◌≡◌, ℕ, suc, ◌+◌, ◌≤◌, Bool, true, false, List, [], ◌∷◌, ◌++◌, length, Option, Some, None, Result, Ok, Err, refl, ap, sym, subst, ◌∙◌, length-append, arith}
+use Rattle.std.proofs.Common.{◌≡◌, ℕ, suc, ◌+◌, ◌≤◌, Bool, true, false, List, [], ◌∷◌, length, Option, Some, None, Result, Ok, Err, refl, ap, sym, ◌∙◌, length-append, arith}
 use Rattle.std.specs.Prelude.{if◌then◌else◌}
 use Rattle.cc_typed.specs.declared.tree.Site.{Site}
 use Rattle.cc_typed.specs.declared.types.DataType.{DataType}
-use Rattle.cc_faults.proofs.Holds.{Holds}
-use Rattle.cc_faults.specs.Judged.{Judged, Good, Bad, both, each, found, map, mapped, outcome}
+use Rattle.cc_faults.specs.Judged.{Judged, Good, both, each, found, map, mapped, outcome}
 use Rattle.cc_faults.specs.Phrases.{branch, branches, do_loop, for_loop, while_loop}
 use Rattle.cc_faults.specs.Scopes.{Scope, Text, declared, deeper, inside_loop, is_here, left as left_scope, meaning_at, with_variable}
 use Rattle.cc_faults.specs.Statements.{Head, accept_head, after, after_all, after_alternatives, after_choice, after_in, after_names, around_block, before_block, clause, head_of, in_names, kth, local_type, names_of_accept, parameter_types, site_of, with_site}
@@ -17,7 +16,7 @@ use Rattle.cc_faults.specs.declared.plain.Statement.{Statement, Empty, Declare, 
 use Rattle.cc_faults.specs.declared.scope.Around.{Around}
 use Rattle.cc_faults.specs.declared.scope.Role.{Role}
 use Rattle.cc_faults.specs.declared.scope.Role.TheVariants as role
-use Rattle.cc_sound.proofs.Accepts.{accept_head-typed, declared-sites, holds-at, names-sites}
+use Rattle.cc_sound.proofs.Accepts.{accept_head-typed, declared-sites, holds-at}
 use Rattle.cc_sound.proofs.Goods.{good-both, none-found}
 use Rattle.cc_sound.proofs.Growth.{Grows, front-more, front-same, grows-declared, grows-left, grows-on, grows-same}
 use Rattle.cc_sound.specs.Sizes.{things_in, things_in_all, things_in_alternatives, things_in_block, things_in_choice}

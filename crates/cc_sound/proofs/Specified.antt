@@ -1,36 +1,28 @@
 -- Each specification has one body, whose variables begin with the parameters that are specified.
-use Rattle.std.proofs.Common.{◌≡◌, ◌⊎◌, inl, inr, ℕ, zero, suc, ◌+◌, ◌≤◌, ◌<◌, Bool, true, false, ◌&&◌, ◌||◌, List, [], ◌∷◌, ◌++◌, length, take, drop, Option, Some, None, Result, Ok, Err, refl, ap, sym, subst, ◌∙◌, length-append, arith}
+use Rattle.std.proofs.Common.{◌≡◌, ℕ, zero, suc, ◌+◌, ◌<◌, Bool, true, false, ◌||◌, List, [], ◌∷◌, length, Option, Some, None, Ok, refl, ap, sym, subst, ◌∙◌, length-append, arith}
 use Rattle.std.proofs.lemmas.Bool.{eq-eqb, eqb-true, or_left, or_right}
 use Rattle.std.specs.Prelude.{if◌then◌else◌, nat_eq, slice_get}
-use Rattle.cc_typed.specs.Parts.{Parts}
 use Rattle.cc_typed.specs.declared.tree.Kind.{Kind}
 use Rattle.cc_typed.specs.declared.types.DataType.{DataType}
-use Rattle.cc_typed.specs.declared.types.DataType.TheVariants.{Void}
-use Rattle.cc_faults.specs.Declarations.{after_item, and_name, kind_heads, kind_of, main_head, parameters, transaction_heads, transactions_in}
-use Rattle.cc_faults.specs.Judged.{Judged, Good, Bad, both, checked, known, map, outcome, second}
-use Rattle.cc_faults.specs.Programs.{BodyParts, FunctionParts, Passed, Piece, NoPiece, OneFunction, OneKind, Transactions, after_body, and_item, body_made, body_types, few_for_main, function_made, has_body, in_body, is_body_of, kind_among, kind_of_body, kinds_among, no_kind, no_variables, scope_after, types_of_names}
-use Rattle.cc_faults.specs.Rows.{as_many, as_many_names, value_type, with_body, with_specification}
-use Rattle.cc_faults.specs.Scopes.{Scope, Text, entry_at, is_among, outermost}
+use Rattle.cc_faults.specs.Declarations.{after_item, kind_heads, kind_of, parameters, transaction_heads, transactions_in}
+use Rattle.cc_faults.specs.Judged.{Good, Bad, outcome}
+use Rattle.cc_faults.specs.Programs.{BodyParts, Passed, Piece, NoPiece, OneFunction, OneKind, Transactions, and_item, has_body, kind_among, kinds_among, no_kind}
+use Rattle.cc_faults.specs.Rows.{value_type, with_specification}
+use Rattle.cc_faults.specs.Scopes.{Scope, Text, entry_at, is_among}
 use Rattle.cc_faults.specs.declared.fault.FaultAt.{FaultAt}
 use Rattle.cc_faults.specs.declared.fault.TypeKind.TheVariants as kind
 use Rattle.cc_faults.specs.declared.plain.Identifier.{Identifier}
 use Rattle.cc_faults.specs.declared.plain.Item.{Item}
 use Rattle.cc_faults.specs.declared.plain.Item.TheVariants as item
-use Rattle.cc_faults.specs.declared.plain.Parameter.{Parameter}
 use Rattle.cc_faults.specs.declared.plain.Statement.{Statement}
-use Rattle.cc_faults.specs.declared.plain.Transaction.{Transaction}
-use Rattle.cc_faults.specs.declared.plain.TypeName.{TypeName}
 use Rattle.cc_faults.specs.declared.scope.KindHead.{KindHead}
-use Rattle.cc_sound.proofs.Functions.{function-front, good-equal, ok-equal, parameters-each, some-equal, take-front, take-none}
-use Rattle.cc_sound.proofs.Goods.{each-length, good-both, good-checked, good-known, good-map, good-outcome, good-unless}
+use Rattle.cc_sound.proofs.Functions.{parameters-each}
+use Rattle.cc_sound.proofs.Goods.{each-length, good-outcome, good-unless}
 use Rattle.cc_sound.proofs.Heads.{false-true, true-false}
-use Rattle.cc_sound.proofs.Items.{ArePieces, BodyFound, FunctionFound, SpecificationFound, function_variables}
-use Rattle.cc_sound.proofs.Levels.{Level, level-after}
-use Rattle.cc_sound.proofs.Moves.{item-moves, kinds-behind}
-use Rattle.cc_sound.proofs.Parameters.{here-start, names-add, names-fresh, not-seen}
-use Rattle.cc_sound.proofs.Passing.{in-passes}
-use Rattle.cc_sound.proofs.Starts.{IsSpecified, specified_in, specified_names}
-use Rattle.cc_sound.specs.Fits.{IsFront}
+use Rattle.cc_sound.proofs.Items.{ArePieces, BodyFound}
+use Rattle.cc_sound.proofs.Moves.{item-moves}
+use Rattle.cc_sound.proofs.Parameters.{not-seen}
+use Rattle.cc_sound.proofs.Starts.{specified_in, specified_names}
 
 -- ---- the heads of specifications
 

@@ -1,17 +1,14 @@
 -- What is visible before the first item of a text: functions and process types are announced.
-use Rattle.std.proofs.Common.{◌≡◌, ◌⊎◌, inl, inr, ℕ, zero, suc, ◌+◌, ◌≤◌, ◌<◌, Bool, true, false, List, [], ◌∷◌, ◌++◌, length, Option, Some, None, Result, Ok, Err, refl, ap, sym, subst, ◌∙◌, length-append, replicate, arith}
+use Rattle.std.proofs.Common.{◌≡◌, ◌⊎◌, inl, inr, ℕ, zero, suc, ◌+◌, ◌≤◌, Bool, true, false, List, [], ◌∷◌, ◌++◌, length, Option, Some, None, refl, ap, subst, length-append, arith}
 use Rattle.std.proofs.lemmas.Bool.{and_from, lt-ltb}
 use Rattle.std.proofs.lemmas.Option.{slice_get_within}
 use Rattle.std.specs.Prelude.{if◌then◌else◌, nat_eq, nat_lt, slice_get, slice_set}
 use Rattle.cc_typed.specs.KnownTypes.{is_process_type}
 use Rattle.cc_typed.specs.Parts.{Parts}
-use Rattle.cc_typed.specs.Types.{Int}
-use Rattle.cc_typed.specs.declared.types.DataType.{DataType}
-use Rattle.cc_faults.specs.Declarations.{after_item, announced, announced_by, at_start, function_heads, functions_in, head_of, kinds_in, nothing, specified, specified_by, text_of, with_first, with_process}
+use Rattle.cc_faults.specs.Declarations.{after_item, announced, at_start, function_heads, functions_in, head_of, kinds_in, nothing, specified, text_of, with_first, with_process}
 use Rattle.cc_faults.specs.Judged.{after_each}
 use Rattle.cc_faults.specs.Programs.{Passed, and_item}
 use Rattle.cc_faults.specs.Scopes.{Scope, Text, entry_at, is_there, or_none}
-use Rattle.cc_faults.specs.declared.fault.FaultAt.{FaultAt}
 use Rattle.cc_faults.specs.declared.plain.Identifier.{Identifier}
 use Rattle.cc_faults.specs.declared.plain.Item.{Item}
 use Rattle.cc_faults.specs.declared.plain.Item.TheVariants as item
@@ -19,7 +16,6 @@ use Rattle.cc_faults.specs.declared.plain.Plain.{Plain}
 use Rattle.cc_faults.specs.declared.scope.Meaning.{Meaning}
 use Rattle.cc_faults.specs.declared.scope.Meaning.TheVariants as meaning
 use Rattle.cc_faults.specs.declared.scope.Named.{Named}
-use Rattle.cc_faults.specs.declared.scope.Signature.{Signature}
 use Rattle.cc_sound.proofs.Growth.{entry-set}
 use Rattle.cc_sound.proofs.Levels.{Level}
 use Rattle.cc_sound.specs.Fits.{IsThere}

@@ -1,8 +1,8 @@
 -- The structures of a text without a fault are a table, with fields of known types.
-use Rattle.std.proofs.Common.{◌≡◌, ℕ, zero, suc, ◌+◌, ◌*◌, ◌≤◌, Bool, true, false, not, ◌&&◌, List, [], ◌∷◌, ◌++◌, length, Option, Some, None, Result, Ok, Err, ℤ, refl, ap, sym, subst, ◌∙◌, length-append, arith}
+use Rattle.std.proofs.Common.{◌≡◌, ℕ, suc, ◌+◌, ◌*◌, ◌≤◌, Bool, true, false, not, ◌&&◌, List, [], ◌∷◌, ◌++◌, length, Option, Some, None, Result, refl, ap, sym, subst, ◌∙◌, arith}
 use Rattle.std.proofs.lemmas.Bool.{and_from, eq-eqb, le-leb, leb-true}
 use Rattle.std.specs.List.{list_all}
-use Rattle.std.specs.Prelude.{if◌then◌else◌, nat_eq, nat_le, slice_get}
+use Rattle.std.specs.Prelude.{if◌then◌else◌, nat_eq, nat_le}
 use Rattle.cc_base.specs.Limits.{most_type_cells}
 use Rattle.cc_typed.proofs.Tables.{left, right}
 use Rattle.cc_typed.specs.KnownTypes.{is_known, is_known_field, is_known_structure}
@@ -13,8 +13,8 @@ use Rattle.cc_typed.specs.declared.types.DataType.{DataType}
 use Rattle.cc_typed.specs.declared.types.DataType.TheVariants.{Void, Single, Array}
 use Rattle.cc_typed.specs.declared.types.Structure.{Structure}
 use Rattle.cc_faults.proofs.Holds.{Holds}
-use Rattle.cc_faults.specs.Declarations.{Before, after_constant, after_constants, after_enumeration, after_function, and_constant, and_field, before_constants, constant_meaning, constant_value, constants, field, field_with, int_type, items_scope, laid_out, named_enumeration, next_structure, structure, structure_of, unused, with_enumeration_name, with_structure, with_structure_name}
-use Rattle.cc_faults.specs.Judged.{Judged, Good, Bad, after_each, answer, both, each_after, found, map, outcome, second}
+use Rattle.cc_faults.specs.Declarations.{Before, after_constants, after_function, and_constant, and_field, before_constants, constant_meaning, constant_value, constants, field, field_with, int_type, items_scope, laid_out, named_enumeration, next_structure, structure, unused, with_enumeration_name, with_structure, with_structure_name}
+use Rattle.cc_faults.specs.Judged.{Judged, Good, Bad, after_each, answer, both, found, map, outcome, second}
 use Rattle.cc_faults.specs.Programs.{Passed, and_item, scope_after}
 use Rattle.cc_faults.specs.Scopes.{Scope, Text, entry_at, is_here, is_there, meaning_at, with_name}
 use Rattle.cc_faults.specs.declared.fault.FaultAt.{FaultAt}
@@ -31,7 +31,7 @@ use Rattle.cc_sound.proofs.Goods.{AreWalked, good-both, good-map, good-unless, g
 use Rattle.cc_sound.proofs.Growth.{all-append, front-on}
 use Rattle.cc_sound.proofs.Heads.{false-true}
 use Rattle.cc_sound.proofs.Levels.{Level, level-after, level-fits, structure-made}
-use Rattle.cc_sound.proofs.Moves.{item-moves, items-move}
+use Rattle.cc_sound.proofs.Moves.{items-move}
 use Rattle.cc_sound.proofs.Types.{IsKnown, array-known, element-same, value-known}
 use Rattle.cc_sound.specs.Fits.{IsFront, ScopeFits}
 use Rattle.cc_sound.specs.Formed.{is_formed_item}

@@ -1,12 +1,11 @@
 -- A text without a fault means a typed program.
-use Rattle.std.proofs.Common.{◌≡◌, ℕ, zero, suc, ◌+◌, ◌≤◌, ◌<◌, Bool, true, false, ◌&&◌, ◌||◌, List, [], ◌∷◌, ◌++◌, length, take, Option, Some, None, Result, Ok, Err, refl, ap, sym, subst, ◌∙◌, length-append, arith}
-use Rattle.std.proofs.lemmas.Bool.{and_from, eq-eqb, eqb-true, le-leb, ltb-true, or_left}
+use Rattle.std.proofs.Common.{◌≡◌, ℕ, zero, suc, ◌+◌, ◌≤◌, ◌<◌, Bool, true, false, ◌||◌, List, [], ◌∷◌, length, take, Some, None, Ok, refl, ap, sym, subst, ◌∙◌, length-append, arith}
+use Rattle.std.proofs.lemmas.Bool.{and_from, eq-eqb, eqb-true, le-leb, ltb-true}
 use Rattle.std.proofs.lemmas.Option.{slice_get_within}
-use Rattle.std.specs.List.{list_all}
 use Rattle.std.specs.Prelude.{if◌then◌else◌, nat_eq, nat_lt, slice_get}
 use Rattle.cc_typed.proofs.Tables.{left, right}
 use Rattle.cc_typed.specs.Accepts.{are_each_once, sites_of_kinds}
-use Rattle.cc_typed.specs.KnownTypes.{are_parameters, is_process_type, is_whole}
+use Rattle.cc_typed.specs.KnownTypes.{are_parameters, is_process_type}
 use Rattle.cc_typed.specs.Parts.{Parts}
 use Rattle.cc_typed.specs.Typed.{are_few, are_typed_kinds, are_typed_structures, has_few_parts, is_typed_but_for_sites, is_typed_program, is_typed_transaction, kind_parameters, most_things}
 use Rattle.cc_typed.specs.Typed as typed
@@ -14,17 +13,16 @@ use Rattle.cc_typed.specs.declared.tree.Function.{Function}
 use Rattle.cc_typed.specs.declared.tree.Kind.{Kind}
 use Rattle.cc_typed.specs.declared.types.DataType.{DataType}
 use Rattle.cc_faults.proofs.Holds.{Holds, holds-both, holds-map, holds-weaker}
-use Rattle.cc_faults.specs.Declarations.{at_start, function_heads, functions_in, kind_heads, main_head, text_of}
-use Rattle.cc_faults.specs.Judged.{Judged, Good, Bad, after_each, answer, both, faults, found, map}
-use Rattle.cc_faults.specs.Programs.{FunctionParts, Passed, Piece, NoPiece, OneFunction, OneKind, Transactions, and_item, and_transaction, assembled, before_items, function_made, functions_among, has_body, kind_among, kinds_among, no_kind, passed_all, pieces_of, pieces_with, program, transaction, transactions_among}
+use Rattle.cc_faults.specs.Declarations.{at_start, function_heads, functions_in, main_head, text_of}
+use Rattle.cc_faults.specs.Judged.{Judged, Good, Bad, answer, both, faults, map}
+use Rattle.cc_faults.specs.Programs.{FunctionParts, Passed, Piece, OneFunction, OneKind, and_item, and_transaction, assembled, before_items, function_made, functions_among, kind_among, kinds_among, passed_all, pieces_of, pieces_with, program, transaction, transactions_among}
 use Rattle.cc_faults.specs.Rows.{main_there, transaction_named, transactions_of}
-use Rattle.cc_faults.specs.Scopes.{Scope, Text, entry_at}
+use Rattle.cc_faults.specs.Scopes.{Text, entry_at}
 use Rattle.cc_faults.specs.declared.plain.Identifier.{Identifier}
 use Rattle.cc_faults.specs.declared.plain.Item.{Item}
 use Rattle.cc_faults.specs.declared.plain.Item.TheVariants as item
 use Rattle.cc_faults.specs.declared.plain.Plain.{Plain}
 use Rattle.cc_faults.specs.declared.scope.KindHead.{KindHead}
-use Rattle.cc_faults.specs.declared.scope.Signature.{Signature}
 use Rattle.cc_faults.specs.declared.scope.TransactionHead.{TransactionHead}
 use Rattle.cc_sound.proofs.Entered.{AreCounted, AreKinds, kind-at, kinds-found}
 use Rattle.cc_sound.proofs.Functions.{IsHeadOf, head-at, heads-found, ok-equal, some-equal}
@@ -34,16 +32,16 @@ use Rattle.cc_sound.proofs.Heads.{some-there}
 use Rattle.cc_sound.proofs.Items.{ArePieces, function_variables, pieces-found}
 use Rattle.cc_sound.proofs.Levels.{Level}
 use Rattle.cc_sound.proofs.Moves.{item-moves, items-move}
-use Rattle.cc_sound.proofs.Once.{AreApart, each-once, sites_of_pieces}
+use Rattle.cc_sound.proofs.Once.{AreApart, each-once}
 use Rattle.cc_sound.proofs.Specified.{IsCounted, body-named, body-there, counted-at, has_kind, kinds-count, kinds-get, kinds-length, no-kind, some-same, spec-body, spec-once}
 use Rattle.cc_sound.proofs.Starts.{functions_of, heads-count, kinds-passed, level-start, process-named, specified_in, specified_names}
 use Rattle.cc_sound.proofs.Statements.{holds-itself}
-use Rattle.cc_sound.proofs.Structures.{AreTabled, tabled-items}
+use Rattle.cc_sound.proofs.Structures.{tabled-items}
 use Rattle.cc_sound.proofs.Transactions.{GoesTo, IsTransactionOf, kinds-typed, transactions-known, transactions-typed}
 use Rattle.cc_sound.proofs.Types.{holds-all}
 use Rattle.cc_sound.proofs.Wholes.{ArePlaced, IsAt, IsSoundText, items-sound, sound-at}
-use Rattle.cc_sound.specs.Fits.{TextFits, transaction_with}
-use Rattle.cc_sound.specs.Formed.{is_formed_item, is_formed_text}
+use Rattle.cc_sound.specs.Fits.{TextFits}
+use Rattle.cc_sound.specs.Formed.{is_formed_text}
 use Rattle.cc_sound.specs.Sizes.{things_of, things_of_item, things_of_items}
 use Rattle.cc_sound.specs.Typing.{MeansTyped, counted}
 

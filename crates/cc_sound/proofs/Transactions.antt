@@ -1,8 +1,8 @@
 -- The transactions of a text without a fault are typed, and stand where their heads say.
-use Rattle.std.proofs.Common.{◌≡◌, ℕ, zero, suc, ◌+◌, ◌≤◌, ◌<◌, Bool, true, false, not, ◌&&◌, ◌||◌, List, [], ◌∷◌, ◌++◌, length, Option, Some, None, Result, Ok, Err, refl, ap, sym, subst, ◌∙◌, append_assoc, append-nil, length-append, arith}
-use Rattle.std.proofs.lemmas.Bool.{and_from, lt-ltb, or_left, or_right}
+use Rattle.std.proofs.Common.{◌≡◌, ℕ, zero, suc, ◌+◌, ◌<◌, Bool, true, false, not, ◌&&◌, ◌||◌, List, [], ◌∷◌, ◌++◌, length, Option, Some, None, Ok, refl, ap, sym, subst, ◌∙◌, append_assoc, length-append, arith}
+use Rattle.std.proofs.lemmas.Bool.{and_from, lt-ltb, or_left}
 use Rattle.std.specs.List.{list_all}
-use Rattle.std.specs.Prelude.{if◌then◌else◌, nat_eq, nat_lt, slice_get}
+use Rattle.std.specs.Prelude.{if◌then◌else◌, nat_eq, slice_get}
 use Rattle.cc_typed.proofs.Tables.{left, right}
 use Rattle.cc_typed.specs.KnownTypes.{are_parameters, is_process_type, is_whole}
 use Rattle.cc_typed.specs.Parts.{Parts}
@@ -13,10 +13,10 @@ use Rattle.cc_typed.specs.declared.tree.Kind.{Kind}
 use Rattle.cc_typed.specs.declared.tree.Transaction.{Transaction as TypedTransaction}
 use Rattle.cc_typed.specs.declared.types.DataType.{DataType}
 use Rattle.cc_typed.specs.declared.types.DataType.TheVariants.{Void}
-use Rattle.cc_faults.specs.Declarations.{after_item, is_async, kind_heads, parameters, signature_of, transaction_heads, transaction_result, transaction_signature, transactions_in, unused}
-use Rattle.cc_faults.specs.Judged.{Judged, Good, after_each, both, each_after, map, outcome, second}
-use Rattle.cc_faults.specs.Programs.{Passed, Piece, NoPiece, OneFunction, OneKind, Transactions, and_item, and_transaction, function_made, scope_after, transaction, transaction_made, transactions_among}
-use Rattle.cc_faults.specs.Rows.{transaction_named, transactions_of, written}
+use Rattle.cc_faults.specs.Declarations.{is_async, kind_heads, parameters, signature_of, transaction_heads, transaction_result, transaction_signature, unused}
+use Rattle.cc_faults.specs.Judged.{Good, after_each, both, map, outcome, second}
+use Rattle.cc_faults.specs.Programs.{Passed, Piece, OneFunction, OneKind, and_item, and_transaction, transaction, transaction_made, transactions_among}
+use Rattle.cc_faults.specs.Rows.{transaction_named, transactions_of}
 use Rattle.cc_faults.specs.Scopes.{Scope, Text}
 use Rattle.cc_faults.specs.declared.plain.Item.{Item}
 use Rattle.cc_faults.specs.declared.plain.Item.TheVariants as item

@@ -1,5 +1,5 @@
 -- A text without a fault means a typed program: its functions and bodies, item by item.
-use Rattle.std.proofs.Common.{◌≡◌, ◌⊎◌, inl, inr, ℕ, zero, suc, ◌+◌, ◌≤◌, ◌<◌, Bool, true, false, ◌&&◌, ◌||◌, List, [], ◌∷◌, ◌++◌, length, Option, Some, None, Result, Ok, Err, refl, ap, sym, subst, ◌∙◌, arith}
+use Rattle.std.proofs.Common.{◌≡◌, ◌⊎◌, inl, inr, ℕ, ◌≤◌, ◌<◌, Bool, true, false, List, [], ◌∷◌, ◌++◌, length, Option, Some, Ok, refl, ap, sym, subst, ◌∙◌, arith}
 use Rattle.std.proofs.lemmas.Bool.{and_from, eq-eqb, eqb-true, ltb-true, or_left, or_right}
 use Rattle.std.specs.List.{list_all}
 use Rattle.std.specs.Prelude.{if◌then◌else◌, nat_eq, nat_lt, slice_get}
@@ -7,7 +7,7 @@ use Rattle.cc_typed.proofs.Tables.{left, right}
 use Rattle.cc_typed.specs.Accepts.{sites_of_body}
 use Rattle.cc_typed.specs.KnownTypes.{are_parameters, is_process_type}
 use Rattle.cc_typed.specs.Parts.{Parts}
-use Rattle.cc_typed.specs.Typed.{are_typed_kinds, is_typed_function, is_typed_kind, is_typed_site, most_things}
+use Rattle.cc_typed.specs.Typed.{is_typed_function, is_typed_kind, is_typed_site, most_things}
 use Rattle.cc_typed.specs.declared.tree.Function.{Function}
 use Rattle.cc_typed.specs.declared.tree.Kind.{Kind}
 use Rattle.cc_typed.specs.declared.tree.Site.{Site}
@@ -15,8 +15,8 @@ use Rattle.cc_typed.specs.declared.tree.Transaction.{Transaction as TypedTransac
 use Rattle.cc_typed.specs.declared.types.DataType.{DataType}
 use Rattle.cc_faults.specs.Declarations.{after_item}
 use Rattle.cc_faults.specs.Judged.{after_each}
-use Rattle.cc_faults.specs.Programs.{BodyParts, FunctionParts, Passed, Piece, NoPiece, OneFunction, OneKind, Transactions, after_body, and_item, body_types, functions_among, in_body, kind_among, kinds_among, no_variables, scope_after}
-use Rattle.cc_faults.specs.Scopes.{Scope, Text, entry_at, is_among}
+use Rattle.cc_faults.specs.Programs.{BodyParts, FunctionParts, Passed, Piece, NoPiece, OneFunction, OneKind, Transactions, after_body, and_item, body_types, functions_among, in_body, kind_among, no_variables}
+use Rattle.cc_faults.specs.Scopes.{Scope, Text, entry_at}
 use Rattle.cc_faults.specs.declared.plain.Identifier.{Identifier}
 use Rattle.cc_faults.specs.declared.plain.Item.{Item}
 use Rattle.cc_faults.specs.declared.plain.Item.TheVariants as item
@@ -29,7 +29,7 @@ use Rattle.cc_sound.proofs.Blocks.{body-typed, function-typed, main-typed}
 use Rattle.cc_sound.proofs.Entered.{AreCounted, body_of, main-few, main_of}
 use Rattle.cc_sound.proofs.Functions.{function_of}
 use Rattle.cc_sound.proofs.Growth.{front-on}
-use Rattle.cc_sound.proofs.Heads.{false-true, true-false}
+use Rattle.cc_sound.proofs.Heads.{true-false}
 use Rattle.cc_sound.proofs.Items.{ArePieces, BodyFound, FunctionFound}
 use Rattle.cc_sound.proofs.Levels.{Level, level-after}
 use Rattle.cc_sound.proofs.Moves.{item-like, item-moves, items-move, names-alike}
@@ -38,9 +38,9 @@ use Rattle.cc_sound.proofs.Specified.{body-named, body-once, has_kind, no-kind}
 use Rattle.cc_sound.proofs.Statements.{numbered-on}
 use Rattle.cc_sound.proofs.Transactions.{GoesTo, fits-here, goes-more}
 use Rattle.cc_sound.specs.Fits.{IsFront, ScopeFits, TextFits}
-use Rattle.cc_sound.specs.Formed.{is_formed_item, is_formed_statement}
-use Rattle.cc_sound.specs.Sizes.{things_in_block, things_of_item, things_of_items}
-use Rattle.cc_sound.specs.Typing.{AreNumbered, counted}
+use Rattle.cc_sound.specs.Formed.{is_formed_item}
+use Rattle.cc_sound.specs.Sizes.{things_of_items}
+use Rattle.cc_sound.specs.Typing.{AreNumbered}
 
 -- ---- what is made between two points of a text
 

@@ -2,3 +2,4 @@ pub mod Sizes
 pub mod Formed
 pub mod Fits
 pub mod Typing
+pub mod Examples
