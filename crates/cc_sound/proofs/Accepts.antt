@@ -104,12 +104,12 @@ pub names-sites : (n : ℕ) (ts : Judged (List DataType)) (k : ℕ) (s : Scope) 
 names-sites n ts k s [] = refl
 names-sites n ts k s (x ∷ xs) = names-sites n ts (suc k) (declared n s x (outcome (map (kth k) ts))) xs ∙ declared-sites n s x (outcome (map (kth k) ts))
 
-kth-drop : (us : List DataType) (k : ℕ) → k < length us → drop k us ≡ kth k us ∷ drop (suc k) us
+pub kth-drop : (us : List DataType) (k : ℕ) → k < length us → drop k us ≡ kth k us ∷ drop (suc k) us
 kth-drop us k lt =
     let next : k + 1 ≡ suc k = omega arith in
     drop-at us k Int lt ∙ ap (λ u. u ∷ drop (k + 1) us) (sym (ap type_or_void (slice_get-get_or us k Int lt))) ∙ ap (λ n. kth k us ∷ drop n us) next
 
-kth-outcome : (us : List DataType) (k : ℕ) → outcome (map (kth k) (Good us)) ≡ Ok (kth k us)
+pub kth-outcome : (us : List DataType) (k : ℕ) → outcome (map (kth k) (Good us)) ≡ Ok (kth k us)
 unfolding map
 kth-outcome us k = refl
 

@@ -42,7 +42,7 @@ module _ (t : Text) (p : Parts) (whole : TextFits t p) where
   )
 
   -- names whose types are known, where the transaction is
-  abbrev AreKnown : Judged (List DataType) → ℕ → ℕ → Type 0
+  abbrev pub AreKnown : Judged (List DataType) → ℕ → ℕ → Type 0
   AreKnown ts k n = (us : List DataType) → ts ≡ Good us → (list_all (is_whole p) us ≡ true) × (k + n ≤ length us)
 
   name-known : (ts : Judged (List DataType)) (k n : ℕ) → AreKnown ts k (suc n) → (u : DataType) → outcome (map (kth k) ts) ≡ Ok u → is_known p u ≡ true
@@ -53,7 +53,7 @@ module _ (t : Text) (p : Parts) (whole : TextFits t p) where
       subst (λ v. is_known p v ≡ true) same (known-kth p us (go us refl).0 k (omega (arith, many)))
   name-known (Bad own f fs) k n go u e = absurd (cc)
 
-  names-go : (n : ℕ) (ts : Judged (List DataType)) (k : ℕ) (s : Scope) (xs : List Identifier) → AreKnown ts k (length xs) → Goes s (after_names n ts k s xs)
+  pub names-go : (n : ℕ) (ts : Judged (List DataType)) (k : ℕ) (s : Scope) (xs : List Identifier) → AreKnown ts k (length xs) → Goes s (after_names n ts k s xs)
   names-go n ts k s [] go = goes-same s
   names-go n ts k s (x ∷ xs) go =
       goes-on s (declared n s x (outcome (map (kth k) ts))) _

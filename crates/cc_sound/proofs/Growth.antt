@@ -109,7 +109,7 @@ there-more f m k (meaning.Typeless g) le h = tt
 there-more f m k (meaning.Valueless g) le h = tt
 
 -- names, one of which means this from now on
-names-set : (f m k : ℕ) (s : Scope) (x : Identifier) (d : Named) → m ≤ k → IsThere f k d.meaning → ((y : Identifier) (n : Named) → meaning_at s y ≡ Some n → IsThere f m n.meaning)
+pub names-set : (f m k : ℕ) (s : Scope) (x : Identifier) (d : Named) → m ≤ k → IsThere f k d.meaning → ((y : Identifier) (n : Named) → meaning_at s y ≡ Some n → IsThere f m n.meaning)
     → (y : Identifier) (n : Named) → or_none (slice_get (slice_set s.names x.name (Some d)) y.name) ≡ Some n → IsThere f k n.meaning
 names-set f m k s x d le h go y n e = which (entry-set s.names x.name d y.name n e)
   where

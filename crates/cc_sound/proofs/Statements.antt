@@ -76,7 +76,7 @@ counted-on n (suc i) j =
     let f : suc (i + j) ≡ suc i + j = omega arith in
     ap (λ m. n ∷ (counted (suc n) i ++ counted m j)) e ∙ ap (λ l. n ∷ l) (counted-on (suc n) i j) ∙ ap (counted n) f
 
-numbered-on : (n m k : ℕ) (xs ys : List ℕ) → AreNumbered n m xs → AreNumbered m k ys → AreNumbered n k (xs ++ ys)
+pub numbered-on : (n m k : ℕ) (xs ys : List ℕ) → AreNumbered n m xs → AreNumbered m k ys → AreNumbered n k (xs ++ ys)
 numbered-on n m k xs ys h i =
     (h.0 + i.0, ap (λ l. l ++ ys) h.1 ∙ ap (λ l. counted n h.0 ++ l) (i.1 ∙ ap (λ x. counted x i.0) (sym h.2)) ∙ counted-on n h.0 i.0, long)
   where
@@ -127,7 +127,7 @@ process-body p kind result variables (role.Main o) q h = tt
 process-body p kind result variables (role.Body (Ok k)) q h = ap is_process_body h.0 ∙ left _ _ h.2
 process-body p kind result variables (role.Body (Err f)) q h = absurd h
 
-holds-itself : {A : Type 0} (j : Judged A) → Holds (λ v. j ≡ Good v) j
+pub holds-itself : {A : Type 0} (j : Judged A) → Holds (λ v. j ≡ Good v) j
 holds-itself (Good v) = refl
 holds-itself (Bad own f fs) = tt
 
@@ -287,7 +287,7 @@ sound-as : (p : Parts) (s r : Scope) (b d : Bool) (xs zs : List ℕ) → IsSound
 sound-as p s r b d xs zs h go e = (go h.0, h.1, renamed (length s.sites) (length r.sites) xs zs e h.2)
 
 -- what ends further on is a front here, too
-ends-before : (a : Surroundings) (s r : Scope) → Grows s r → Ends a r → Ends a s
+pub ends-before : (a : Surroundings) (s r : Scope) → Grows s r → Ends a r → Ends a s
 ends-before a s r g h =
     (front-on s.variables r.variables a.variables g.variables h.0, front-on s.sites r.sites a.parts.sites g.sites h.1)
 
@@ -395,7 +395,7 @@ module _ (a : Surroundings) (s : Scope) where
       (λ v g. sound-as a.parts s r (list_all (is_typed_alternative a) v.1) (is_typed_statement a (selected v)) (sites_of_list v.1) (sites_in (selected v)) g.1.0 (λ b. typed-Select a v.1 ∙ and_from _ _ (and_from _ _ g.0 (ap (λ m. nat_le m most_things) g.1.1 ∙ few)) b) (sites-Select v.1)) (both j k)
       (holds-both (λ o. is_process_body a.kind ≡ true) (λ xs. AreAlternatives a s r xs × (length xs ≡ n)) j k h i))
 
-  one-more : (r q : Scope) (j : Judged TypedStatement) (k : Judged (List TypedStatement)) → Holds (IsStatement a s r) j → Holds (AreStatements a r q) k → Holds (AreStatements a s q) (map in_front (both j k))
+  pub one-more : (r q : Scope) (j : Judged TypedStatement) (k : Judged (List TypedStatement)) → Holds (IsStatement a s r) j → Holds (AreStatements a r q) k → Holds (AreStatements a s q) (map in_front (both j k))
   one-more r q j k h i =
       holds-map (AreStatements a s q) in_front (both j k)
       (holds-weaker (λ v. IsStatement a s r v.0 × AreStatements a r q v.1) (λ v. AreStatements a s q (in_front v))

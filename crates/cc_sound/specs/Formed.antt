@@ -1,6 +1,8 @@
 -- Plain trees of the form that a text gives them: a row of operators has an operator, a format is one of those that are listed, an accept
--- has at most one clause of each word, and `terminate` has no entries.
-use Rattle.std.specs.Prelude.{ℕ, suc, Bool, true, false, not, ◌&&◌, ◌||◌, nat_le, nat_lt, List, [], ◌∷◌, Option, Some, None}
+-- has at most one clause of each word, `terminate` has no entries, and a structure has a field. A text declares fewer than 2^32 things.
+use Rattle.std.specs.List.{list_all}
+use Rattle.std.specs.Prelude.{ℕ, suc, Bool, true, false, not, ◌&&◌, ◌||◌, nat_le, nat_lt, List, [], ◌∷◌, length, Option, Some, None}
+use Rattle.cc_typed.specs.Sequences.{is_empty}
 use Rattle.cc_typed.specs.Typed.{most_things}
 use Rattle.cc_faults.specs.Phrases.{assign, choose, negate, not_of, parenthesized, plus, put_char, step_after, step_before, update, within}
 use Rattle.cc_faults.specs.Phrases.{branch, branches, do_loop, for_loop, while_loop}
@@ -8,11 +10,15 @@ use Rattle.cc_faults.specs.declared.plain.Choice.{Choice, Accept' as AcceptChoic
 use Rattle.cc_faults.specs.declared.plain.Clause.{Clause}
 use Rattle.cc_faults.specs.declared.plain.ClauseWord.{ClauseWord}
 use Rattle.cc_faults.specs.declared.plain.ClauseWord.TheVariants as word
+use Rattle.cc_faults.specs.declared.plain.Item.{Item}
+use Rattle.cc_faults.specs.declared.plain.Item.TheVariants as item
 use Rattle.cc_faults.specs.declared.plain.LocalForm.{LocalForm}
 use Rattle.cc_faults.specs.declared.plain.LocalForm.TheVariants as form
+use Rattle.cc_faults.specs.declared.plain.Plain.{Plain}
 use Rattle.cc_faults.specs.declared.plain.Statement.{Statement, Empty, Declare, Evaluate, Block', Break, Continue, Return, TransactionReturn, Delay, Accept', Select', Row_of-Statement, end_of-Statement, more_of-Statement, Row_of-Alternative, end_of-Alternative, more_of-Alternative}
 use Rattle.cc_faults.specs.declared.plain.Phrase.{Phrase, Number, Name, Call', Create', GetChar, PrintFormat', Chain', Arithmetic', Compare', Both', Either', Row_of-Phrase, end_of-Phrase, more_of-Phrase, Row_of-Step, end_of-Step, more_of-Step, Row_of-Operation, end_of-Operation, more_of-Operation, Row_of-Compared, end_of-Compared, more_of-Compared}
 use Rattle.cc_faults.specs.declared.plain.Step.{Step, Field, Index', Call' as CallStep'}
+use Rattle.cc_sound.specs.Sizes.{things_of}
 
 abbrev pub has_phrase : {n : _} → Row_of-Phrase n → Bool
 has_phrase end_of-Phrase = false
@@ -150,3 +156,13 @@ module _ (formats : ℕ) where
     is_formed_choice (DelayChoice e) = is_formed e
     is_formed_choice Immediate = true
     is_formed_choice Terminate = true
+
+  abbrev pub is_formed_item : Item → Bool
+  is_formed_item (item.Structure x fields) = not (is_empty fields)
+  is_formed_item (item.Enumeration x cs) = true
+  is_formed_item (item.Specification x ts ds) = true
+  is_formed_item (item.Body x names block) = list_all is_formed_statement block
+  is_formed_item (item.Function result x ps block) = list_all is_formed_statement block
+
+abbrev pub is_formed_text : Plain → Bool
+is_formed_text p = nat_lt (things_of p) most_things && list_all (is_formed_item (length p.formats)) p.items

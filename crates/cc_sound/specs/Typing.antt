@@ -1,11 +1,12 @@
 -- That what is found is typed.
 use Rattle.std.specs.List.{list_all}
-use Rattle.std.specs.Prelude.{◌≡◌, ◌+◌, ◌&&◌, ℕ, zero, suc, Bool, true, false, List, [], ◌∷◌, length, slice_get}
+use Rattle.std.specs.Prelude.{◌≡◌, ◌+◌, ◌&&◌, ℕ, zero, suc, Bool, true, false, List, [], ◌∷◌, length, slice_get, Some}
 use Rattle.cc_typed.specs.Parts.{Parts}
+use Rattle.cc_faults.specs.Judged.{Judged, faults, found}
 use Rattle.cc_faults.specs.Scopes.{Scope}
 use Rattle.cc_typed.specs.Missing.{parameters_at}
 use Rattle.cc_typed.specs.Sequences.{is_empty}
-use Rattle.cc_typed.specs.Typed.{Surroundings, is_called, is_place, is_typed, is_typed_site}
+use Rattle.cc_typed.specs.Typed.{Surroundings, is_called, is_place, is_typed, is_typed_program, is_typed_site}
 use Rattle.cc_typed.specs.TypedLists.{arguments_typed, is_part_first, is_typed_location, steps_typed}
 use Rattle.cc_typed.specs.Types.{type_of}
 use Rattle.cc_typed.specs.declared.tree.ChainStep.{ChainStep}
@@ -45,3 +46,7 @@ IsSound p s r typed sites =
     (typed ≡ true)
     × (list_all (is_typed_site p) s.sites ≡ true → list_all (is_typed_site p) r.sites ≡ true)
     × AreNumbered (length s.sites) (length r.sites) sites
+
+-- without a fault it means a program, which is typed
+abbrev pub MeansTyped : Judged Parts → Type 0
+MeansTyped j = faults j ≡ [] → (p : Parts) × (found j ≡ Some p) × (is_typed_program p ≡ true)

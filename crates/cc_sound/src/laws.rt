@@ -3,18 +3,19 @@
 ghost use Rattle.std.specs.Prelude.{◌≡◌, ◌≤◌, ℕ, length, true};
 ghost use Rattle.cc_typed.specs.Accepts.{sites_in};
 ghost use Rattle.cc_typed.specs.Clauses.{is_pure};
-ghost use Rattle.cc_typed.specs.Typed.{Surroundings, is_typed_statement};
+ghost use Rattle.cc_typed.specs.Typed.{Surroundings, is_typed_program, is_typed_statement};
 ghost use Rattle.cc_faults.proofs.Holds.{Holds};
 ghost use Rattle.cc_faults.specs.Depths.{depth_of};
 ghost use Rattle.cc_faults.specs.Expressions.{expression};
 ghost use Rattle.cc_faults.specs.Made.{value_of};
+ghost use Rattle.cc_faults.specs.Programs.{program};
 ghost use Rattle.cc_faults.specs.Scopes.{Scope, Text};
 ghost use Rattle.cc_faults.specs.Statements.{after, judged};
 ghost use Rattle.cc_sound.specs.Fits.{Ends, Inside, IsFront, ScopeFits, Stands, TextFits};
-ghost use Rattle.cc_sound.specs.Formed.{is_formed, is_formed_statement};
-ghost use Rattle.cc_sound.specs.Typing.{IsFound, IsSound};
+ghost use Rattle.cc_sound.specs.Formed.{is_formed, is_formed_statement, is_formed_text};
+ghost use Rattle.cc_sound.specs.Typing.{IsFound, IsSound, MeansTyped};
 
-use cc_faults::{Around, Phrase, Statement};
+use cc_faults::{Around, Phrase, Plain, Statement};
 
 /// An expression without a fault is typed, where the names lead to what is there.
 pub fn expressions_are_typed(around: Around, phrase: &Phrase)
@@ -45,4 +46,12 @@ pub fn statements_are_typed(around: Around, statement: &Statement)
 {
     let _ = around;
     let _ = statement;
+}
+
+/// What is found of a text is typed, as `Program::of` wants it; a text without a fault means a program, which is typed.
+pub fn programs_are_typed(tree: &Plain)
+    ensures typed { is_formed_text tree.now ≡ true → Holds (λ p. is_typed_program p ≡ true) (program tree.now) }
+    ensures means { is_formed_text tree.now ≡ true → MeansTyped (program tree.now) }
+{
+    let _ = tree;
 }
