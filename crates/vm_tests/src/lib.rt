@@ -1,10 +1,10 @@
 //! Tests of the stack machine. They stand apart from the library, since a crate with tests is proved twice.
+//!
+//! [`building`] and [`driving`] are for other crates of tests, too.
 #![tactic(auto)]
 
-#[cfg(test)]
-mod building;
-#[cfg(test)]
-mod driving;
+pub mod building;
+pub mod driving;
 #[cfg(test)]
 mod meetings;
 #[cfg(test)]

@@ -3,6 +3,7 @@ use crate::building::{code, heights, instrs, with_format, with_kind, with_transa
 use crate::driving::{Told, asked_at, run};
 use cc_base::Bytes;
 use cc_code::{Instr, Part, RawCode, verify};
+use cc_vm::Image;
 use std::alloc::{AllocError, Global};
 use std::rt::HostRuntime;
 use std::test::Fail;
@@ -42,7 +43,7 @@ fn asks(alloc: Global, all: &[Instr], levels: &[u32]) -> Result<Told, Fail> {
 /// What the code's `main` asks first.
 fn first_asked(alloc: Global, raw: RawCode) -> Result<Told, Fail> {
     let code = verify(alloc, raw)?;
-    let ran = run(alloc, code, &[], 1, &[])?;
+    let ran = run(alloc, Image(code), &[], 1, &[])?;
     Ok(match asked_at(&ran, 0) {
         Some((_, told)) => told,
         None => (-1, 0, 0),
