@@ -1,8 +1,9 @@
 //! Tests of the stack machine. They stand apart from the library, since a crate with tests is proved twice.
 //!
-//! [`building`] and [`driving`] are for other crates of tests, too.
+//! [`building`] and [`driving`] are for other crates of tests, too, and [`asks_again`] is for bench/machine.py.
 #![tactic(auto)]
 
+mod again;
 pub mod building;
 pub mod driving;
 #[cfg(test)]
@@ -15,3 +16,5 @@ mod ranks;
 mod requests;
 #[cfg(test)]
 mod table;
+
+pub use again::asks_again;
