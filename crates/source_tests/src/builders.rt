@@ -1,94 +1,21 @@
 //! Typed trees, put together by hand.
 
+use crate::trees::{accept, body_of, main_of, one, read, site, transaction, two, variable};
 use cc_typed::{
-    AcceptPart, ChainStep, DataType, ElementType, Expression, Field, Kind, Location, NumberType,
-    PartStep, ProgramParts, Site, Statement, Structure, Transaction, typed_program,
+    ChainStep, DataType, ElementType, Expression, Field, Kind, Location, PartStep, ProgramParts,
+    Statement, Structure, typed_program,
 };
 use sqlite_items::{Boxed, Items};
 use std::alloc::{AllocError, Global};
-
-/// The list of one item.
-pub(crate) fn one<T: Drop>(alloc: Global, item: T) -> Result<Items<T>, AllocError> {
-    let mut items = Items::new(alloc);
-    items.push(item)?;
-    Ok(items)
-}
 
 /// The type of the structure of this number.
 pub(crate) fn structure_type(number: u32) -> DataType {
     DataType::Single(ElementType::Struct { number })
 }
 
-/// The place that is a variable.
-pub(crate) fn variable(alloc: Global, number: u32, data_type: DataType) -> Location {
-    Location {
-        variable: number,
-        of: data_type,
-        steps: Items::new(alloc),
-        data_type,
-    }
-}
-
-pub(crate) fn read(from: Location) -> Expression {
-    Expression::Read { from }
-}
-
-pub(crate) fn number(value: i64, number_type: NumberType) -> Expression {
-    Expression::Constant { value, number_type }
-}
-
-/// A statement that is this expression.
-pub(crate) fn evaluate(expression: Expression) -> Result<Statement, AllocError> {
-    Ok(Statement::Evaluate { expression })
-}
-
-/// `main` with these variables and this body.
-pub(crate) fn main_with(variables: Items<DataType>, body: Items<Statement>) -> Kind {
-    Kind {
-        parameters: 0,
-        variables,
-        result: DataType::int(),
-        body,
-    }
-}
-
 /// The body of the process type `q`, which has one variable of type `int`.
 pub(crate) fn server_with(alloc: Global, body: Items<Statement>) -> Result<Kind, AllocError> {
-    Ok(Kind {
-        parameters: 0,
-        variables: one(alloc, DataType::int())?,
-        result: DataType::Void,
-        body,
-    })
-}
-
-/// `accept t() { .. }`, at this site.
-pub(crate) fn accept(site: u32, block: Items<Statement>) -> Statement {
-    Statement::Accept {
-        part: AcceptPart { site, block },
-    }
-}
-
-/// `trans process q t();` of the process type `q`.
-fn transaction(alloc: Global) -> Transaction {
-    Transaction {
-        kind: 1,
-        is_async: false,
-        parameters: Items::new(alloc),
-        value: DataType::process(1),
-    }
-}
-
-/// A site of `t`, of which the parameters would begin at this number.
-fn site(alloc: Global, first: u32) -> Site {
-    Site {
-        kind: 1,
-        transaction: 0,
-        first,
-        environment: Items::new(alloc),
-        such_that: None,
-        least_by: None,
-    }
+    body_of(alloc, 0, &[DataType::int()], body)
 }
 
 /// A program of `main` and `q`, which has one site.
@@ -99,14 +26,15 @@ pub(crate) fn program(
     server: Kind,
     first: u32,
 ) -> Result<ProgramParts, AllocError> {
-    let mut kinds = one(alloc, main)?;
-    kinds.push(server)?;
+    let kinds = two(alloc, main, server)?;
+    let transactions = one(alloc, transaction(alloc, 1, &[], DataType::process(1))?)?;
+    let sites = one(alloc, site(alloc, 1, 0, first))?;
     Ok(ProgramParts {
         structures,
         kinds,
         functions: Items::new(alloc),
-        transactions: one(alloc, transaction(alloc))?,
-        sites: one(alloc, site(alloc, first))?,
+        transactions,
+        sites,
         formats: Items::new(alloc),
     })
 }
@@ -125,7 +53,7 @@ pub(crate) fn is_typed_in(
     statement: Result<Statement, AllocError>,
 ) -> Result<bool, AllocError> {
     let body = one(alloc, statement?)?;
-    let main = main_with(one(alloc, variable_type)?, body);
+    let main = main_of(alloc, &[variable_type], body)?;
     let parts = program(alloc, structures, main, plain_server(alloc)?, 0)?;
     typed_program(alloc, &parts)
 }

@@ -1,4 +1,6 @@
 //! Tests of the typed tree and of what it means. They stand apart from the libraries, since a crate with tests is proved twice.
+//!
+//! [`trees`] is for other crates of tests, too.
 #![tactic(auto)]
 
 #[cfg(test)]
@@ -11,3 +13,4 @@ mod programs;
 mod straight;
 #[cfg(test)]
 mod structures;
+pub mod trees;

@@ -1,6 +1,7 @@
 //! Which phrases are typed.
 
-use crate::builders::{calls, evaluate, is_typed, is_typed_in, number, one, read, variable};
+use crate::builders::{calls, is_typed, is_typed_in};
+use crate::trees::{evaluate, number, one, read, variable};
 use cc_typed::{
     ChainStep, DataType, Expression, NumberType, Operation, Operator, PartStep, Statement,
 };

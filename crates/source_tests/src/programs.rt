@@ -1,6 +1,7 @@
 //! Which programs are typed: each site stands in one accept.
 
-use crate::builders::{accept, main_with, number, one, program, server_with};
+use crate::builders::{program, server_with};
+use crate::trees::{accept, main_of, number, one};
 use cc_typed::{NumberType, Statement, typed_program};
 use sqlite_items::{Boxed, Items};
 use std::alloc::{AllocError, Global};
@@ -8,7 +9,7 @@ use std::rt::HostRuntime;
 
 /// Whether a program is typed in which `q` has this body, and its one site this first parameter.
 fn with_body(alloc: Global, body: Items<Statement>, first: u32) -> Result<bool, AllocError> {
-    let main = main_with(Items::new(alloc), Items::new(alloc));
+    let main = main_of(alloc, &[], Items::new(alloc))?;
     let server = server_with(alloc, body)?;
     let parts = program(alloc, Items::new(alloc), main, server, first)?;
     typed_program(alloc, &parts)

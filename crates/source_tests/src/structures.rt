@@ -1,8 +1,7 @@
 //! Tables of structures, and the cells of their types.
 
-use crate::builders::{
-    evaluate, innermost, is_typed_in, nested_structures, one, read, structure_of, structure_type,
-};
+use crate::builders::{innermost, is_typed_in, nested_structures, structure_of, structure_type};
+use crate::trees::{evaluate, one, read};
 use cc_typed::{DataType, ElementType, Field, NumberType, Structure, cells_in, part_offset};
 use sqlite_items::Items;
 use std::alloc::{AllocError, Global};

@@ -1,3 +1,4 @@
+//! Code, put together by hand.
 use cc_base::{Bytes, Cells, Memory, Shape};
 use cc_code::{EnvironmentPart, Instr, Part, RawCode, Site, TableEntry};
 use sqlite_items::Items;
@@ -124,6 +125,17 @@ pub fn with_site(raw: RawCode, site: Site) -> Result<RawCode, AllocError> {
     let mut raw = raw;
     raw.sites.push(site)?;
     Ok(raw)
+}
+
+/// A site of this transaction without clauses, at which the arguments of a call are stored from this offset on.
+pub fn plain_site(alloc: Global, trans: u32, into: u64) -> Site {
+    Site {
+        trans,
+        into,
+        env: Items::new(alloc),
+        such: None,
+        by: None,
+    }
 }
 
 /// A site of transaction 0, whose environment has one part of so many cells.

@@ -1,9 +1,7 @@
-//! Code on the kernel: what its processes ask, one after the other, in numbers.
+//! A program on the kernel: what its processes ask, one after the other.
 use cc_base::{Behave, Bytes, Cells, FaultKind, Memory, Request};
-use cc_code::Code;
 use cc_kernel::Kernel;
 use cc_rules::Standing;
-use cc_vm::Image;
 use std::alloc::Global;
 use std::sync::Arc;
 
@@ -16,9 +14,13 @@ pub type Told = (i64, i64, i64);
 pub struct Ran {
     /// What the processes asked, each with its number.
     pub asked: Vec<(u32, Told)>,
+    /// The same in full, a line each.
+    pub text: String,
     pub printed: Bytes,
     /// The cells of the last Reply.
     pub replied: Cells,
+    /// How the run stands.
+    pub standing: Standing,
 }
 
 /// The digits of a list of cells.
@@ -82,8 +84,11 @@ pub fn told(request: &Request) -> Told {
     }
 }
 
-/// The cells of a Reply are kept.
-fn keep(ran: &mut Ran, request: &Request) -> Result<(), Memory> {
+/// A request is kept in full, with the process that asked it, and the cells of a Reply.
+fn keep(ran: &mut Ran, pid: u32, request: &Request) -> Result<(), Memory> {
+    if writeln!(ran.text, "{pid} {request:?}").is_err() {
+        return Err(Memory);
+    }
     match request {
         Request::Reply { value } => ran.replied = value.copy()?,
         _ => {}
@@ -92,13 +97,13 @@ fn keep(ran: &mut Ran, request: &Request) -> Result<(), Memory> {
 }
 
 /// A process that is ready goes on with its grant, and what it asks is done. False where none is ready.
-fn go_on(kernel: &mut Kernel<Image>, alloc: Global, ran: &mut Ran) -> Result<bool, Memory> {
+fn go_on<B: Behave>(kernel: &mut Kernel<B>, alloc: Global, ran: &mut Ran) -> Result<bool, Memory> {
     let Some((pid, mut process, grant)) = kernel.pick() else {
         return Ok(false);
     };
-    let request = Image::go(&mut process, alloc, grant)?;
+    let request = B::go(&mut process, alloc, grant)?;
     ran.asked.push((pid.0, told(&request)))?;
-    keep(ran, &request)?;
+    keep(ran, pid.0, &request)?;
     kernel.prepare(Some(&request))?;
     let bytes = kernel.commit(pid, process, request);
     ran.printed.append(bytes.as_slice())?;
@@ -106,8 +111,8 @@ fn go_on(kernel: &mut Kernel<Image>, alloc: Global, ran: &mut Ran) -> Result<boo
 }
 
 /// At most so many slices.
-fn go_on_for(
-    kernel: &mut Kernel<Image>,
+fn go_on_for<B: Behave>(
+    kernel: &mut Kernel<B>,
     alloc: Global,
     ran: &mut Ran,
     slices: u32,
@@ -121,7 +126,7 @@ fn go_on_for(
 }
 
 /// A reading of the clock, where no process is running.
-fn tell_idle(kernel: &mut Kernel<Image>, moment: u64) -> Result<(), Memory> {
+fn tell_idle<B: Behave>(kernel: &mut Kernel<B>, moment: u64) -> Result<(), Memory> {
     let Standing::Idle { until: _until } = kernel.state() else {
         return Ok(());
     };
@@ -133,27 +138,36 @@ fn tell_idle(kernel: &mut Kernel<Image>, moment: u64) -> Result<(), Memory> {
     Ok(())
 }
 
+/// A run that has not begun.
+fn nothing_asked(alloc: Global) -> Ran {
+    Ran {
+        asked: Vec::new(alloc),
+        text: String::new(alloc),
+        printed: Bytes::new(alloc),
+        replied: Cells::new(alloc),
+        standing: Standing::Going,
+    }
+}
+
 /// A run on an input. After at most so many slices the clock shows the readings one after the other, each followed by at most so
 /// many slices again.
-pub fn run(
+pub fn run<B: Behave>(
     alloc: Global,
-    code: Code,
+    program: B,
     input: &[u8],
     slices: u32,
     readings: &[u64],
 ) -> Result<Ran, Memory> {
-    let image = Arc::new(alloc, Image(code))?;
-    let mut kernel = Kernel::open(alloc, image, Bytes::from_slice(alloc, input)?, 1_000_000)?;
-    let mut ran = Ran {
-        asked: Vec::new(alloc),
-        printed: Bytes::new(alloc),
-        replied: Cells::new(alloc),
-    };
+    let program = Arc::new(alloc, program)?;
+    let input = Bytes::from_slice(alloc, input)?;
+    let mut kernel = Kernel::open(alloc, program, input, 1_000_000)?;
+    let mut ran = nothing_asked(alloc);
     go_on_for(&mut kernel, alloc, &mut ran, slices)?;
     for reading in readings {
         tell_idle(&mut kernel, *reading)?;
         go_on_for(&mut kernel, alloc, &mut ran, slices)?;
     }
+    ran.standing = kernel.state();
     Ok(ran)
 }
 

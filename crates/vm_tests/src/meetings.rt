@@ -5,6 +5,7 @@ use crate::building::{
 use crate::driving::{Ran, asked_at, run};
 use cc_base::{Bytes, NumberType};
 use cc_code::{Instr, Part, RawCode, TableEntry, verify};
+use cc_vm::Image;
 use sqlite_items::Items;
 use std::alloc::Global;
 use std::rt::HostRuntime;
@@ -14,7 +15,7 @@ const INT: NumberType = NumberType::Int;
 
 /// The run of code on the input `a`, with these readings of the clock.
 fn runs(alloc: Global, raw: RawCode, readings: &[u64]) -> Result<Ran, Fail> {
-    Ok(run(alloc, verify(alloc, raw)?, b"a", 100, readings)?)
+    Ok(run(alloc, Image(verify(alloc, raw)?), b"a", 100, readings)?)
 }
 
 /// Code with a second kind, which begins at this address and has so many variable cells, the first of them its arguments.

@@ -3,13 +3,14 @@ use crate::building::{code, heights, instrs, with_function};
 use crate::driving::run;
 use cc_base::NumberType;
 use cc_code::{Instr, Part, RawCode, verify};
+use cc_vm::Image;
 use std::alloc::{AllocError, Global};
 use std::rt::HostRuntime;
 use std::test::Fail;
 
 /// A word for how far `main` comes with 2 pauses at most: 0 for its end, 1 for a third pause, and for a fault 2 more than its number.
 fn ending(alloc: Global, raw: RawCode) -> Result<u8, Fail> {
-    let ran = run(alloc, verify(alloc, raw)?, &[], 3, &[])?;
+    let ran = run(alloc, Image(verify(alloc, raw)?), &[], 3, &[])?;
     Ok(match ran.asked.last() {
         Some((_, (0, _, _))) => 0,
         Some((_, (9, kind, _))) => u8::try_from(*kind).unwrap_or(0).wrapping_add(2),

@@ -1,8 +1,10 @@
 //! What `main` asks first, for each instruction that asks and whose operands say all of it.
-use crate::building::{code, heights, instrs, with_format, with_kind, with_transaction};
+use crate::again::asks_again;
+use crate::building::{code, heights, instrs, rows, with_format, with_kind, with_transaction};
 use crate::driving::{Told, asked_at, run};
 use cc_base::Bytes;
 use cc_code::{Instr, Part, RawCode, verify};
+use cc_vm::Image;
 use std::alloc::{AllocError, Global};
 use std::rt::HostRuntime;
 use std::test::Fail;
@@ -42,7 +44,7 @@ fn asks(alloc: Global, all: &[Instr], levels: &[u32]) -> Result<Told, Fail> {
 /// What the code's `main` asks first.
 fn first_asked(alloc: Global, raw: RawCode) -> Result<Told, Fail> {
     let code = verify(alloc, raw)?;
-    let ran = run(alloc, code, &[], 1, &[])?;
+    let ran = run(alloc, Image(code), &[], 1, &[])?;
     Ok(match asked_at(&ran, 0) {
         Some((_, told)) => told,
         None => (-1, 0, 0),
@@ -101,5 +103,26 @@ fn bytes_are_printed_and_got(rt: HostRuntime) -> Result<(), Fail> {
 #[test]
 fn formats_are_printed_with_their_numbers(rt: HostRuntime) -> Result<(), Fail> {
     assert_eq!(rt; formats(rt.alloc())?, (7, 45, 4));
+    Ok(())
+}
+
+/// Whether `main` with these instructions asks so many times at once.
+fn asks_so_often(alloc: Global, all: &[(Instr, u32)], times: u32) -> Result<bool, Fail> {
+    let code = verify(alloc, rows(alloc, 0, all)?)?;
+    Ok(asks_again(alloc, Image(code), times)?)
+}
+
+#[test]
+fn a_process_asks_again_and_again(rt: HostRuntime) -> Result<(), Fail> {
+    let prints = [
+        (Instr::Const(65), 0),
+        (Instr::PutByte, 1),
+        (Instr::Drop(1), 1),
+        (Instr::Jump(0), 0),
+    ];
+    assert!(rt; asks_so_often(rt.alloc(), &prints, 1_000)?);
+    let once = [(Instr::Const(0), 0), (Instr::Wait, 1), (Instr::End, 0)];
+    assert!(rt; asks_so_often(rt.alloc(), &once, 1)?);
+    assert!(rt; !asks_so_often(rt.alloc(), &once, 2)?);
     Ok(())
 }

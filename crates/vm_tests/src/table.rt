@@ -3,6 +3,7 @@ use crate::building::{rows, with_format, with_kind, with_transaction};
 use crate::driving::{Ran, run};
 use cc_base::{Bytes, Cells, NumberType};
 use cc_code::{Instr, Part, RawCode, verify};
+use cc_vm::Image;
 use std::alloc::{AllocError, Global};
 use std::rt::HostRuntime;
 use std::test::Fail;
@@ -204,7 +205,7 @@ fn formatted(alloc: Global, row: &Row) -> Result<RawCode, Fail> {
 /// Its run on the input `a`, with 9 as the reading of the clock.
 fn ran(alloc: Global, row: &Row) -> Result<Ran, Fail> {
     let code = verify(alloc, formatted(alloc, row)?)?;
-    Ok(run(alloc, code, b"a", 10, &[9])?)
+    Ok(run(alloc, Image(code), b"a", 10, &[9])?)
 }
 
 /// Whether these cells are the numbers, from the place on.
