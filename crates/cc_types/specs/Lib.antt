@@ -3,3 +3,6 @@ pub mod Parts
 pub mod Checkers
 pub mod Judging
 pub mod Naming
+pub mod Making
+pub mod Passing
+pub mod Finding

@@ -1,4 +1,4 @@
-//! The checker of names and types: what is found of statements, as the definition in cc_faults says it.
+//! The checker of names and types: what is found of a text, as the definition in cc_faults says it.
 //!
 //! Each function that judges a phrase has two clauses: `value` says what is answered, and `noted` that the first of its faults is noted.
 #![tactic(auto)]
@@ -6,10 +6,19 @@
 mod accepts;
 mod checker;
 mod expressions;
+mod fault;
+mod functions;
+mod items;
 mod locals;
+mod made;
+mod parts;
+mod progress;
 mod scene;
 mod sites;
+mod specifications;
 mod statements;
 
 pub use checker::Checker;
+pub use fault::TypeError;
+pub use parts::parts;
 pub use scene::Scene;
