@@ -11,14 +11,14 @@ mod functions;
 mod items;
 mod locals;
 mod made;
-mod parts;
 mod progress;
 mod scene;
 mod sites;
 mod specifications;
 mod statements;
+mod text_parts;
 
 pub use checker::Checker;
 pub use fault::TypeError;
-pub use parts::parts;
 pub use scene::Scene;
+pub use text_parts::parts;
