@@ -5,3 +5,5 @@ pub mod Clauses
 pub mod Stays
 pub mod Makings
 pub mod Wholes
+pub mod Entered
+pub mod Passings

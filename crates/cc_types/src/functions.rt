@@ -1,10 +1,11 @@
 //! Functions and bodies: their heads, and their blocks.
 
 ghost use Rattle.std.specs.Prelude.{◌≡◌, [], IfOk, OnOk};
+ghost use Rattle.cc_declared.specs.Lists.{made_of};
 ghost use Rattle.cc_declared.specs.Undone.{undone};
 ghost use Rattle.cc_faults.specs.Declarations.{after_function};
 ghost use Rattle.cc_faults.specs.Faults.{noted};
-ghost use Rattle.cc_faults.specs.Judged.{Judged, answer, faults, map, outcome};
+ghost use Rattle.cc_faults.specs.Judged.{answer, faults, outcome};
 ghost use Rattle.cc_faults.specs.Programs as program;
 ghost use Rattle.cc_faults.specs.Rows.{with_specification};
 ghost use Rattle.cc_faults.specs.Scopes.{meaning_at};
@@ -23,8 +24,9 @@ use cc_typed::DataType;
 use sqlite_items::Items;
 
 /// The type with which a `return` gives back its value, from the head of a function or of `main`.
+#[tactic(auto, unfolding(cc_declared::specs::Lists::made_of))]
 fn role_of(x: Identifier, head: &Result<Signature, FaultAt>) -> Role
-    ensures { (j : Judged Signature) → outcome j ≡ head.now → result ≡ passing.role_with x (outcome (map program.result_of j)) }
+    ensures { result ≡ passing.role_with x (made_of program.result_of head.now) }
 {
     let of = match head {
         Ok(head) => Ok(head.result),
