@@ -14,6 +14,13 @@ use sqlite_items::Items;
 use std::alloc::Global;
 use std::mem;
 
+/// The structures and the accepts of a text.
+#[derive(Drop)]
+pub struct Tables {
+    pub structures: Items<Structure>,
+    pub sites: Items<Site>,
+}
+
 /// The scope of the parameters and of the outermost block of a function or body.
 pub(crate) const OUTERMOST_SCOPE: u32 = 2;
 
@@ -34,11 +41,14 @@ impl Visible {
     }
 
     /// The structures and the accepts so far, when all is read.
-    pub fn into_tables(self) -> (Items<Structure>, Items<Site>)
-        ensures structures { result.0 ≡ self.now.structures }
-        ensures sites { result.1 ≡ self.now.sites }
+    pub fn into_tables(self) -> Tables
+        ensures structures { result.structures ≡ self.structures }
+        ensures sites { result.sites ≡ self.sites }
     {
-        (self.structures, self.sites)
+        Tables {
+            structures: self.structures,
+            sites: self.sites,
+        }
     }
 
     /// Declares a parameter with the type that is written, or with the first fault of that.

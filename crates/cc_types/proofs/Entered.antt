@@ -84,7 +84,7 @@ module _ (t : Text) (s : Scope) (x : Identifier) (xs : List Statement) where
         ∙ behind-function t r s entered xs (subst (Adds s) (sym i) (entered-function s ps)) out (subst IsNoBody (sym e) (no-body (is_main x) (made_of result_of head)))
 
   module _ (names : List Identifier) (types : Result (List DataType) FaultAt) (number : Option ℕ) (r : Role) (entered : Scope) where
-    body-role-is : number ≡ entry_at s.processes_named x → r ≡ role.Body (outcome (with_specification x number)) → r ≡ body_role s x
+    body-role-is : number ≡ entry_at s.processes_named x → r ≡ role.Body (outcome (with_specification x number)) → r ≡ body_role t s x
     body-role-is h e = e ∙ ap (λ o. role.Body (outcome (with_specification x o))) h
 
     pub body-adds : (taken : Bool) (m : Made) (n : ℕ) (b : Block) → n ≡ length names → number ≡ entry_at s.processes_named x → r ≡ role.Body (outcome (with_specification x number))
@@ -96,10 +96,10 @@ module _ (t : Text) (s : Scope) (x : Identifier) (xs : List Statement) where
         let q = body-role-is h e in
         let inside = in_body s (body_types t s x (length names)) names in
         ap (λ k. with_body m number k b) hn ∙ ap (λ o. with_body m o (length names) b) h
-        ∙ body-makes m (length names) x b (after_block t (body_role s x) inside xs).variables (block_judged t (body_role s x) inside xs)
+        ∙ body-makes m (length names) x b (after_block t (body_role t s x) inside xs).variables (block_judged t (body_role t s x) inside xs)
         (entry_at s.processes_named x) (fresh taken x) (body_types t s x (length names)) (names_once names)
-        (f ∙ ap (λ z. answer (block_judged t z entered xs)) q ∙ ap (λ z. answer (block_judged t (body_role s x) z xs)) i)
-        (g ∙ ap (λ z. (after_block t z entered xs).variables) q ∙ ap (λ z. (after_block t (body_role s x) z xs).variables) i)
+        (f ∙ ap (λ z. answer (block_judged t z entered xs)) q ∙ ap (λ z. answer (block_judged t (body_role t s x) z xs)) i)
+        (g ∙ ap (λ z. (after_block t z entered xs).variables) q ∙ ap (λ z. (after_block t (body_role t s x) z xs).variables) i)
         v good
 
     pub body-notes : (taken : Bool) (m n o : Option FaultAt) → number ≡ entry_at s.processes_named x → r ≡ role.Body (outcome (with_specification x number))
@@ -111,10 +111,10 @@ module _ (t : Text) (s : Scope) (x : Identifier) (xs : List Statement) where
     body-notes taken m n o h e i f g =
         let q = body-role-is h e in
         let inside = in_body s (body_types t s x (length names)) names in
-        noted-parts (body_made (length names) (after_block t (body_role s x) inside xs).variables)
+        noted-parts (body_made (length names) (after_block t (body_role t s x) inside xs).variables)
         (both (fresh taken x) (both (both (kind_of_body t s x) (body_types t s x (length names))) (names_once names)))
-        (block_judged t (body_role s x) inside xs) m n o f
-        (g ∙ ap (λ z. noted n (faults (block_judged t z entered xs))) q ∙ ap (λ z. noted n (faults (block_judged t (body_role s x) z xs))) i)
+        (block_judged t (body_role t s x) inside xs) m n o f
+        (g ∙ ap (λ z. noted n (faults (block_judged t z entered xs))) q ∙ ap (λ z. noted n (faults (block_judged t (body_role t s x) z xs))) i)
 
     pub body-behind : (hidden none : List Hidden) (after : Scope) → s.variables ≡ [] → number ≡ entry_at s.processes_named x → r ≡ role.Body (outcome (with_specification x number))
         → entered ≡ in_body s (body_types t s x (length names)) names
@@ -126,5 +126,5 @@ module _ (t : Text) (s : Scope) (x : Identifier) (xs : List Statement) where
         let inside = in_body s (body_types t s x (length names)) names in
         f ∙ ap (λ ns. record (after_block t r entered xs) { names = ns; variables = [] }) (names-again hidden none entered s hn again)
         ∙ behind-block t r s entered xs (subst (Adds s) (sym i) (entered-body s (body_types t s x (length names)) names)) out
-        ∙ ap (λ z. with_sites s (after_block t z entered xs)) q ∙ ap (λ z. with_sites s (after_block t (body_role s x) z xs)) i
-        ∙ ap (with_sites s) (sym (after_in-is t (outermost (body_role s x)) inside xs))
+        ∙ ap (λ z. with_sites s (after_block t z entered xs)) q ∙ ap (λ z. with_sites s (after_block t (body_role t s x) z xs)) i
+        ∙ ap (with_sites s) (sym (after_in-is t (outermost (body_role t s x)) inside xs))

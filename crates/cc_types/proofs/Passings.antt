@@ -67,29 +67,29 @@ noted-named f j k m n o h i =
 
 module _ (k : ℕ) (s : Scope) (all : List Transaction) (i : ℕ) (d : Transaction) (names after : List ℕ) where
   -- a transaction more
-  abbrev Before : List ℕ
-  Before = after_each and_transaction [] (take i all)
+  abbrev SoFar : List ℕ
+  SoFar = after_each and_transaction [] (take i all)
 
-  taken-same : AreAlike names Before → transaction_judged k s (is_among names d.name.name) d ≡ transaction k s Before d
+  taken-same : AreAlike names SoFar → transaction_judged k s (is_among names d.name.name) d ≡ transaction k s SoFar d
   taken-same h = ap (λ b. transaction_judged k s b d) (h d.name.name)
 
-  pub names-more : i < length all → d ≡ get_or all i d → AreAlike names Before → after ≡ and_once names d.name.name → AreAlike after (after_each and_transaction [] (take (i + 1) all))
+  pub names-more : i < length all → d ≡ get_or all i d → AreAlike names SoFar → after ≡ and_once names d.name.name → AreAlike after (after_each and_transaction [] (take (i + 1) all))
   names-more lt is h e = λ y.
-      alike-more names Before after d.name h e y ∙ ap (λ us. is_among us y) (sym (loop-after and_transaction [] Before all i d lt is refl))
+      alike-more names SoFar after d.name h e y ∙ ap (λ us. is_among us y) (sym (loop-after and_transaction [] SoFar all i d lt is refl))
 
-  pub transactions-more : (m so_far more : Made) → i < length all → d ≡ get_or all i d → AreAlike names Before
+  pub transactions-more : (m so_far more : Made) → i < length all → d ≡ get_or all i d → AreAlike names SoFar
       → ((ds : List TypedTransaction) → each_after (transaction k s) and_transaction [] (take i all) ≡ Good ds → so_far ≡ after_each and_made m ds)
       → ((v : TypedTransaction) → transaction_judged k s (is_among names d.name.name) d ≡ Good v → more ≡ and_made so_far v)
       → (ds : List TypedTransaction) → each_after (transaction k s) and_transaction [] (take (i + 1) all) ≡ Good ds → more ≡ after_each and_made m ds
   transactions-more m so_far more lt is h before one =
-      loop-makes (transaction k s) and_transaction and_made m [] Before all i d so_far more lt is refl before (λ v e. one v (taken-same h ∙ e))
+      loop-makes (transaction k s) and_transaction and_made m [] SoFar all i d so_far more lt is refl before (λ v e. one v (taken-same h ∙ e))
 
-  pub transactions-noted : (start m more : Option FaultAt) → i < length all → d ≡ get_or all i d → AreAlike names Before
+  pub transactions-noted : (start m more : Option FaultAt) → i < length all → d ≡ get_or all i d → AreAlike names SoFar
       → m ≡ noted start (faults (each_after (transaction k s) and_transaction [] (take i all)))
       → more ≡ noted m (faults (transaction_judged k s (is_among names d.name.name) d))
       → more ≡ noted start (faults (each_after (transaction k s) and_transaction [] (take (i + 1) all)))
   transactions-noted start m more lt is h before one =
-      loop-noted_after (transaction k s) and_transaction [] Before all i d start m more lt is refl before (one ∙ ap (λ j. noted m (faults j)) (taken-same h))
+      loop-noted_after (transaction k s) and_transaction [] SoFar all i d start m more lt is refl before (one ∙ ap (λ j. noted m (faults j)) (taken-same h))
 
 -- ---- what stands before an item
 
@@ -111,9 +111,9 @@ module _ (all : List Item) (b : Passed) (w : Progress) (h : HasPassed all b w) w
     unfolding body_judged
     body-is x xs block taken e =
         let inside = in_body b.scope (body_types t b.scope x (length xs)) xs in
-        let place = outermost (body_role b.scope x) in
+        let place = outermost (body_role t b.scope x) in
         ap (λ z. body_judged t z w.scope x xs block) (e ∙ h.bodies x.name) ∙ ap (λ z. body_judged t (is_among b.bodies x.name) z x xs block) h.scope
-        ∙ ap (λ z. map (body_made (length xs) z.variables) (both (both (fresh (is_among b.bodies x.name) x) (both (both (kind_of_body t b.scope x) (body_types t b.scope x (length xs))) (names_once xs))) (block_judged t (body_role b.scope x) inside block))) (sym (after_in-is t place inside block))
+        ∙ ap (λ z. map (body_made (length xs) z.variables) (both (both (fresh (is_among b.bodies x.name) x) (both (both (kind_of_body t b.scope x) (body_types t b.scope x (length xs))) (names_once xs))) (block_judged t (body_role t b.scope x) inside block))) (sym (after_in-is t place inside block))
         ∙ ap (λ z. map (body_made (length xs) (after_in t place inside block).variables) (both (both (fresh (is_among b.bodies x.name) x) (both (both (kind_of_body t b.scope x) (body_types t b.scope x (length xs))) (names_once xs))) z)) (sym (judged_in-is t place inside block))
 
     pub function-is : (of : TypeName) (x : Identifier) (ps : List Parameter) (block : List Statement) → function_judged t w.scope of x ps block ≡ function t b.scope of x ps block

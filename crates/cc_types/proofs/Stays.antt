@@ -59,8 +59,14 @@ adds-on s r q g h = (stays-on s r q g.0 h.0, h.1 ∙ g.1)
 
 adds-variable : (b : Bool) (n : ℕ) (s : Scope) (x : Identifier) (o : Result DataType FaultAt) → Adds s (if b then s else with_variable n s x o)
 adds-variable true n s x o = adds-same s
-adds-variable false n s x (Ok u) = adds-same s
-adds-variable false n s x (Err f) = adds-same s
+adds-variable false n s x (Ok u) = (
+  record { structures = refl; members = refl; structures_named = refl; enumerations_named = refl; processes_named = refl },
+  refl,
+)
+adds-variable false n s x (Err f) = (
+  record { structures = refl; members = refl; structures_named = refl; enumerations_named = refl; processes_named = refl },
+  refl,
+)
 
 adds-declared : (n : ℕ) (s : Scope) (x : Identifier) (o : Result DataType FaultAt) → Adds s (declared n s x o)
 adds-declared n s x o = adds-variable (is_here n (meaning_at s x)) n s x o
@@ -83,11 +89,17 @@ adds-parameters outer s (p ∷ ps) =
     let r = declared 2 s p.name (outcome (value_type outer p.of)) in
     adds-on s r (after_parameters outer r ps) (adds-declared 2 s p.name (outcome (value_type outer p.of))) (adds-parameters outer r ps)
 
+adds-none : (s : Scope) → Adds s (record s { variables = [] })
+adds-none s = (
+  record { structures = refl; members = refl; structures_named = refl; enumerations_named = refl; processes_named = refl },
+  refl,
+)
+
 pub entered-body : (s : Scope) (ts : Judged (List DataType)) (xs : List Identifier) → Adds s (in_body s ts xs)
-entered-body s ts xs = adds-body_names ts 0 (record s { variables = [] }) xs
+entered-body s ts xs = adds-on s (record s { variables = [] }) (in_body s ts xs) (adds-none s) (adds-body_names ts 0 (record s { variables = [] }) xs)
 
 pub entered-function : (s : Scope) (ps : List Parameter) → Adds s (in_function s ps)
-entered-function s ps = adds-parameters s (record s { variables = [] }) ps
+entered-function s ps = adds-on s (record s { variables = [] }) (in_function s ps) (adds-none s) (adds-parameters s (record s { variables = [] }) ps)
 
 -- ---- in a function and in `main` no accept is found
 
@@ -115,6 +127,7 @@ no-body : (r : Role) (p : Place) → IsNoBody r → found (stands_in_body r p) �
 unfolding answer
 no-body (role.Function u) p h = refl
 no-body (role.Main u) p h = refl
+no-body (role.Body k) p h = absurd h
 
 module _ (t : Text) where
   no-head : (w : Around) (s : Scope) (h : AcceptHead) → IsNoBody w.role → found (head_of t w s h) ≡ None
@@ -135,8 +148,11 @@ module _ (t : Text) where
   leaves-left w s r g = (stays-left s r g.0, g.1)
 
   leaves-site : (w : Around) (o : Option Site) (s : Scope) → (IsNoBody w.role → o ≡ None) → Leaves w s (with_site o s)
-  leaves-site w None s no = leaves-same w s
-  leaves-site w (Some site) s no = (stays-same s, λ n. absurd (let e = no n in cc))
+  leaves-site w None s none = leaves-same w s
+  leaves-site w (Some site) s none = (
+    record { structures = refl; members = refl; structures_named = refl; enumerations_named = refl; processes_named = refl },
+    λ n. absurd (let e = none n in cc),
+  )
 
   leaves-before : (w : Around) (s : Scope) (h : AcceptHead) → Leaves w s (before_block t w s h)
   leaves-before w s h =

@@ -1,5 +1,5 @@
 -- The program so far, as the items of a text are read one after the other.
-use Rattle.std.specs.Prelude.{ℕ, Bool, true, false, not, ◌++◌, if◌then◌else◌, List, [], ◌∷◌, Option, Some, None, Result, Ok, Err, replicate, slice_get, slice_set}
+use Rattle.std.specs.Prelude.{◌≡◌, ℕ, Bool, true, false, not, ◌++◌, if◌then◌else◌, List, [], ◌∷◌, Option, Some, None, Result, Ok, Err, replicate, slice_get, slice_set}
 use Rattle.cc_typed.specs.declared.tree.Kind.{Kind}
 use Rattle.cc_typed.specs.declared.tree.Statement.{Statement}
 use Rattle.cc_typed.specs.declared.types.DataType.{DataType}

@@ -65,11 +65,11 @@ is_main x = nat_eq x.name 0
 unfoldable pub body_judged : Text → Bool → Scope → Identifier → List Identifier → List Statement → Judged Piece
 body_judged t taken s x xs block =
     map
-    (body_made (length xs) (after_block t (body_role s x) (in_body s (body_types t s x (length xs)) xs) block).variables)
+    (body_made (length xs) (after_block t (body_role t s x) (in_body s (body_types t s x (length xs)) xs) block).variables)
     (both
     (both (fresh taken x)
     (both (both (kind_of_body t s x) (body_types t s x (length xs))) (names_once xs)))
-    (block_judged t (body_role s x) (in_body s (body_types t s x (length xs)) xs) block))
+    (block_judged t (body_role t s x) (in_body s (body_types t s x (length xs)) xs) block))
 
 -- a function, or `main`
 unfoldable pub function_judged : Text → Scope → TypeName → Identifier → List Parameter → List Statement → Judged Piece

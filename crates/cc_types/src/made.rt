@@ -1,6 +1,6 @@
 //! The program so far, as the items of a text are read one after the other.
 
-ghost use Rattle.std.specs.Prelude.{◌≡◌, OnOk};
+ghost use Rattle.std.specs.Prelude.{◌≡◌, IfOk, OnOk, slice_set};
 ghost use Rattle.cc_types.specs.Making as making;
 
 use cc_base::Memory;
@@ -57,6 +57,16 @@ pub(crate) fn nothing_made(alloc: Global, count: usize) -> Result<Made, Memory>
     })
 }
 
+/// Sets the element of this number, where there is one.
+#[tactic(auto, using(cc_declared::proofs::Laws::past))]
+fn put_at<T: Drop>(items: &mut Items<T>, number: u32, item: T)
+    ensures { items.new ≡ slice_set items.old number item }
+{
+    if (number as usize) < items.len() {
+        items.set(number as usize, item);
+    }
+}
+
 impl Made {
     /// Whether this kind is to be found yet.
     fn is_free(&self, number: u32) -> bool
@@ -73,8 +83,8 @@ impl Made {
         ensures { self.new ≡ making.with_kind self.old number kind }
     {
         if self.is_free(number) {
-            self.there.set(number as usize, true);
-            self.kinds.set(number as usize, kind);
+            put_at(&mut self.there, number, true);
+            put_at(&mut self.kinds, number, kind);
         }
     }
 
@@ -104,13 +114,14 @@ impl Made {
     ) -> Result<(), Memory>
         ensures { OnOk result (self.new ≡ making.with_block self.old is_main count of block.variables block.body) }
     {
-        let Answer::Good(body) = block.body else {
+        let Block { variables, body } = block;
+        let Answer::Good(body) = body else {
             return Ok(());
         };
         if is_main {
             let kind = Kind {
                 parameters: count,
-                variables: block.variables,
+                variables,
                 result: of,
                 body,
             };
@@ -119,7 +130,7 @@ impl Made {
         }
         self.functions.push(Function {
             parameters: count,
-            variables: block.variables,
+            variables,
             result: of,
             body,
         })?;
@@ -139,12 +150,13 @@ impl Made {
     fn add_kind_block(&mut self, number: u32, count: u32, block: Block)
         ensures { self.new ≡ making.with_kind_block self.old number count block.variables block.body }
     {
-        let Answer::Good(body) = block.body else {
+        let Block { variables, body } = block;
+        let Answer::Good(body) = body else {
             return;
         };
         let kind = Kind {
             parameters: count,
-            variables: block.variables,
+            variables,
             result: DataType::Void,
             body,
         };

@@ -72,13 +72,13 @@ fn main_there(least: &mut Least, items: &[Item])
 fn whole(alloc: Global, progress: Progress<'_>) -> ProgramParts
     ensures { parts_of result ≡ finding.whole progress.now }
 {
-    let (structures, sites) = progress.checker.visible.into_tables();
+    let tables = progress.checker.visible.into_tables();
     ProgramParts {
-        structures,
+        structures: tables.structures,
         kinds: progress.made.kinds,
         functions: progress.made.functions,
         transactions: progress.made.transactions,
-        sites,
+        sites: tables.sites,
         formats: Items::new(alloc),
     }
 }
