@@ -6,7 +6,8 @@ use Rattle.cc_typed.specs.declared.tree.Statement.{Statement as TypedStatement}
 use Rattle.cc_typed.specs.declared.tree.Transaction.{Transaction as TypedTransaction}
 use Rattle.cc_typed.specs.declared.types.DataType.{DataType}
 use Rattle.cc_faults.specs.Declarations.{is_async}
-use Rattle.cc_faults.specs.Judged.{Judged, Good, Bad, after_each, answer, both, each_after, in_front, map, outcome, second}
+use Rattle.cc_faults.specs.Faults.{noted}
+use Rattle.cc_faults.specs.Judged.{Judged, Good, Bad, after_each, answer, both, each_after, faults, in_front, map, outcome, second}
 use Rattle.cc_faults.proofs.Judged.{after-more, answer-Good}
 use Rattle.cc_faults.specs.Programs.{Piece, OneFunction, OneKind, body_made, function_made, specification_made, transaction_made}
 use Rattle.cc_faults.specs.Rows.{with_specification}
@@ -21,6 +22,9 @@ use Rattle.cc_types.specs.declared.made.Block.{Block}
 use Rattle.cc_types.specs.declared.made.Made.{Made}
 
 -- ---- what is good is made of what is good
+
+some-good : {A : Type 0} {v w : A} → Good v ≡ Good w → v ≡ w
+some-good e = cc
 
 pub good-map : {A B : Type 0} (f : A → B) (j : Judged A) (v : B) → map f j ≡ Good v → (u : A) × (j ≡ Good u) × (f u ≡ v)
 unfolding map
@@ -123,6 +127,16 @@ module _ {S A B : Type 0} (f : S → A → Judged B) (step : S → A → S) wher
         let here : f now x ≡ Good parts.1 = ap (f now) is ∙ ap (λ t. f t (get_or xs k x)) (sym a) ∙ parts.3 in
         one parts.1 here ∙ ap (λ z. put z parts.1) (before parts.0 parts.2)
         ∙ sym (after-more put m parts.0 parts.1) ∙ ap (after_each put m) parts.4
+
+-- where such a loop begins
+module _ {S A B : Type 0} (f : S → A → Judged B) (step : S → A → S) (s : S) where
+  pub start-makes : {M : Type 0} (put : M → B → M) (m : M) (vs : List B) → each_after f step s [] ≡ Good vs → m ≡ after_each put m vs
+  unfolding each_after after_each
+  start-makes put m vs e = ap (after_each put m) (some-good e)
+
+  pub start-noted : (m : Option FaultAt) → m ≡ noted m (faults (each_after f step s []))
+  unfolding each_after faults noted
+  start-noted m = refl
 
 pub transactions-made : (m : Made) (ds : List TypedTransaction) → after_each and_made m ds ≡ record m { transactions = m.transactions ++ ds }
 unfolding after_each

@@ -28,7 +28,7 @@ use Rattle.cc_faults.specs.declared.scope.Meaning.{Meaning}
 use Rattle.cc_faults.specs.declared.scope.Named.{Named}
 use Rattle.cc_faults.specs.declared.scope.Signature.{Signature}
 use Rattle.cc_types.proofs.Judging.{after_in-is, judged_in-is}
-use Rattle.cc_types.proofs.Makings.{good-map, loop-makes, transaction-makes, transactions-made}
+use Rattle.cc_types.proofs.Makings.{good-map, loop-makes, specification-makes}
 use Rattle.cc_types.specs.Making.{Makes, with_piece, with_transaction}
 use Rattle.cc_types.specs.Passing.{AreAlike, HasPassed, IsFound, Progress, after_block, after_body, after_specification, and_made, block_judged, body_judged, function_judged, specification_judged, transaction_judged, transactions_judged}
 use Rattle.cc_types.specs.declared.made.Made.{Made}
@@ -90,6 +90,27 @@ module _ (k : ℕ) (s : Scope) (all : List Transaction) (i : ℕ) (d : Transacti
       → more ≡ noted start (faults (each_after (transaction k s) and_transaction [] (take (i + 1) all)))
   transactions-noted start m more lt is h before one =
       loop-noted_after (transaction k s) and_transaction [] SoFar all i d start m more lt is refl before (one ∙ ap (λ j. noted m (faults j)) (taken-same h))
+
+-- a process type: its name, its body, its parameters and its transactions, one after the other
+pub specification-notes : (v : Specified) (s : Scope) (ts : List TypeName) (ds : List Transaction) (m n o q r : Option FaultAt)
+    → n ≡ noted m (faults (fresh v.taken v.name)) → o ≡ noted n (faults (there_is_body v.there v.name)) → q ≡ noted o (faults (parameters s v.name ts)) → r ≡ noted q (faults (transactions_judged v.number s ds))
+    → r ≡ noted m (faults (specification_judged v s ts ds))
+unfolding specification_judged
+specification-notes v s ts ds m n o q r h i j k =
+    let names = both (fresh v.taken v.name) (there_is_body v.there v.name) in
+    let heads = both names (parameters s v.name ts) in
+    k ∙ ap (λ z. noted z (faults (transactions_judged v.number s ds)))
+    (j
+    ∙ ap (λ z. noted z (faults (parameters s v.name ts))) (i ∙ ap (λ z. noted z (faults (there_is_body v.there v.name))) h ∙ sym (noted-both m (fresh v.taken v.name) (there_is_body v.there v.name)))
+    ∙ sym (noted-both m names (parameters s v.name ts)))
+    ∙ sym (ap (noted m) (faults-map specification_made (both heads (transactions_judged v.number s ds))) ∙ noted-both m heads (transactions_judged v.number s ds))
+
+pub specification-adds : (v : Specified) (s : Scope) (ts : List TypeName) (ds : List Transaction) (a b : Made)
+    → ((us : List TypedTransaction) → transactions_judged v.number s ds ≡ Good us → b ≡ record a { transactions = a.transactions ++ us })
+    → Makes a (specification_judged v s ts ds) b
+unfolding specification_judged
+specification-adds v s ts ds a b go =
+    specification-makes a b (both (both (fresh v.taken v.name) (there_is_body v.there v.name)) (parameters s v.name ts)) (transactions_judged v.number s ds) go
 
 -- ---- what stands before an item
 
