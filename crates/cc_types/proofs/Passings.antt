@@ -30,7 +30,7 @@ use Rattle.cc_faults.specs.declared.scope.Signature.{Signature}
 use Rattle.cc_types.proofs.Judging.{after_in-is, judged_in-is}
 use Rattle.cc_types.proofs.Makings.{good-map, loop-makes, specification-makes}
 use Rattle.cc_types.specs.Making.{Makes, with_piece, with_transaction}
-use Rattle.cc_types.specs.Passing.{AreAlike, HasPassed, IsFound, Progress, after_block, after_body, after_specification, and_made, block_judged, body_judged, function_judged, specification_judged, transaction_judged, transactions_judged}
+use Rattle.cc_types.specs.Passing.{AreAlike, Goes, HasPassed, IsFound, Progress, after_block, and_made, block_judged, body_judged, function_judged, specification_judged, transaction_judged, transactions_judged}
 use Rattle.cc_types.specs.declared.made.Made.{Made}
 use Rattle.cc_types.specs.declared.specifications.Specified.{Specified}
 
@@ -147,15 +147,15 @@ module _ (all : List Item) (b : Passed) (w : Progress) (h : HasPassed all b w) w
         ∙ ap (λ z. map (function_made (length ps) x (after_in t place inside block).variables) (both (both (fresh (is_here items_scope (meaning_at b.scope x)) x) (both (signature b.scope x of ps) (both (few_for_main x (length ps)) (names_once (names_in ps))))) z)) (sym (judged_in-is t place inside block))
 
 -- an item that is found as another judgement says it
-pub found-as : (j k : Judged Piece) (m n : Option FaultAt) (a c : Made) → j ≡ k → n ≡ noted m (faults j) → Makes a j c → IsFound m a k n c
-found-as j k m n a c e h go = (h ∙ ap (λ z. noted m (faults z)) e, λ v good. go v (e ∙ good))
+found-as : (j k : Judged Piece) (m n : Option FaultAt) (a c : Made) → j ≡ k → n ≡ noted m (faults k) → Makes a k c → IsFound m a j n c
+found-as j k m n a c e h go = (h ∙ ap (λ z. noted m (faults z)) (sym e), λ v good. go v (sym e ∙ good))
 
 -- an item that adds nothing
-pub found-nothing : {A : Type 0} (j : Judged A) (m n : Option FaultAt) (a : Made) → n ≡ noted m (faults j) → IsFound m a (map no_piece j) n a
+found-nothing : {A : Type 0} (j : Judged A) (m n : Option FaultAt) (a c : Made) → n ≡ noted m (faults j) → c ≡ a → IsFound m a (map no_piece j) n c
 unfolding with_piece
-found-nothing j m n a h = (
+found-nothing j m n a c h same = (
   h ∙ sym (ap (noted m) (faults-map no_piece j)),
-  λ v good. let u = good-map no_piece j v good in ap (with_piece a) u.2,
+  λ v good. let u = good-map no_piece j v good in same ∙ ap (with_piece a) u.2,
 )
 
 -- ---- declarations add no variables
@@ -194,64 +194,111 @@ function-outside s x (Some n) = by (nat_eq n.scope items_scope)
 
 -- ---- what stands behind an item
 
+-- the same names of specifications and of bodies, and as many kinds
+abbrev pub Keeps : Progress → Progress → Type 0
+Keeps w v = (v.all_bodies ≡ w.all_bodies) × (v.specifications ≡ w.specifications) × (v.bodies ≡ w.bodies) × (v.kinds ≡ w.kinds)
+
+still-alike : (xs ys zs : List ℕ) → ys ≡ xs → AreAlike xs zs → AreAlike ys zs
+still-alike xs ys zs e h = λ y. ap (λ us. is_among us y) e ∙ h y
+
 module _ (all : List Item) (t : Text) (b : Passed) (w v : Progress) (h : HasPassed all b w) where
-  pub passed-structure : (x : Identifier) (fs : List Field) → v ≡ record w { scope = after_structure w.scope x fs; made = v.made } → HasPassed all (and_item t b (item.Structure x fs)) v
-  passed-structure x fs e =
-      let here : v.scope ≡ after_structure w.scope x fs = ap (λ (z : Progress). z.scope) e in
+  pub passed-structure : (x : Identifier) (fs : List Field) → v.scope ≡ after_structure w.scope x fs → Keeps w v → HasPassed all (and_item t b (item.Structure x fs)) v
+  passed-structure x fs here k =
       record {
         scope = here ∙ ap (λ s. after_structure s x fs) h.scope;
         outside = ap (λ (s : Scope). s.variables) here ∙ structure-outside w.scope (is_there (entry_at w.scope.structures_named x)) x fs (outcome (map (next_structure w.scope) (structure w.scope x fs))) (found (structure w.scope x fs)) ∙ h.outside;
-        all_bodies = λ y. ap (λ (z : Progress). is_among z.all_bodies y) e ∙ h.all_bodies y;
-        specifications = λ y. ap (λ (z : Progress). is_among z.specifications y) e ∙ h.specifications y;
-        bodies = λ y. ap (λ (z : Progress). is_among z.bodies y) e ∙ h.bodies y;
-        kinds = let k : v.kinds ≡ w.kinds = ap (λ (z : Progress). z.kinds) e in let same = h.kinds in omega (arith, k, same);
+        all_bodies = λ y. ap (λ us. is_among us y) k.0 ∙ h.all_bodies y;
+        specifications = still-alike w.specifications v.specifications b.specifications k.1 h.specifications;
+        bodies = still-alike w.bodies v.bodies b.bodies k.2 h.bodies;
+        kinds = let kinds = k.3 in let same = h.kinds in omega (arith, kinds, same);
       }
 
-  pub passed-enumeration : (x : Option Identifier) (cs : List Constant) → v ≡ record w { scope = after_enumeration w.scope x cs; made = v.made } → HasPassed all (and_item t b (item.Enumeration x cs)) v
-  passed-enumeration x cs e =
-      let here : v.scope ≡ after_enumeration w.scope x cs = ap (λ (z : Progress). z.scope) e in
+  pub passed-enumeration : (x : Option Identifier) (cs : List Constant) → v.scope ≡ after_enumeration w.scope x cs → Keeps w v → HasPassed all (and_item t b (item.Enumeration x cs)) v
+  passed-enumeration x cs here k =
       record {
         scope = here ∙ ap (λ s. after_enumeration s x cs) h.scope;
         outside = ap (λ (s : Scope). s.variables) here ∙ enumeration-outside x (outcome (map int_type (constants w.scope cs))) (after_constants w.scope cs) ∙ constants-outside (before_constants w.scope) cs ∙ h.outside;
-        all_bodies = λ y. ap (λ (z : Progress). is_among z.all_bodies y) e ∙ h.all_bodies y;
-        specifications = λ y. ap (λ (z : Progress). is_among z.specifications y) e ∙ h.specifications y;
-        bodies = λ y. ap (λ (z : Progress). is_among z.bodies y) e ∙ h.bodies y;
-        kinds = let k : v.kinds ≡ w.kinds = ap (λ (z : Progress). z.kinds) e in let same = h.kinds in omega (arith, k, same);
+        all_bodies = λ y. ap (λ us. is_among us y) k.0 ∙ h.all_bodies y;
+        specifications = still-alike w.specifications v.specifications b.specifications k.1 h.specifications;
+        bodies = still-alike w.bodies v.bodies b.bodies k.2 h.bodies;
+        kinds = let kinds = k.3 in let same = h.kinds in omega (arith, kinds, same);
       }
 
-  pub passed-function : (of : TypeName) (x : Identifier) (ps : List Parameter) (block : List Statement) → v ≡ record w { scope = after_function w.scope x (meaning_at w.scope x); made = v.made } → HasPassed all (and_item t b (item.Function of x ps block)) v
-  passed-function of x ps block e =
-      let here : v.scope ≡ after_function w.scope x (meaning_at w.scope x) = ap (λ (z : Progress). z.scope) e in
+  pub passed-function : (of : TypeName) (x : Identifier) (ps : List Parameter) (block : List Statement) → v.scope ≡ after_function w.scope x (meaning_at w.scope x) → Keeps w v → HasPassed all (and_item t b (item.Function of x ps block)) v
+  passed-function of x ps block here k =
       record {
         scope = here ∙ ap (λ s. after_function s x (meaning_at s x)) h.scope;
         outside = ap (λ (s : Scope). s.variables) here ∙ function-outside w.scope x (meaning_at w.scope x) ∙ h.outside;
-        all_bodies = λ y. ap (λ (z : Progress). is_among z.all_bodies y) e ∙ h.all_bodies y;
-        specifications = λ y. ap (λ (z : Progress). is_among z.specifications y) e ∙ h.specifications y;
-        bodies = λ y. ap (λ (z : Progress). is_among z.bodies y) e ∙ h.bodies y;
-        kinds = let k : v.kinds ≡ w.kinds = ap (λ (z : Progress). z.kinds) e in let same = h.kinds in omega (arith, k, same);
+        all_bodies = λ y. ap (λ us. is_among us y) k.0 ∙ h.all_bodies y;
+        specifications = still-alike w.specifications v.specifications b.specifications k.1 h.specifications;
+        bodies = still-alike w.bodies v.bodies b.bodies k.2 h.bodies;
+        kinds = let kinds = k.3 in let same = h.kinds in omega (arith, kinds, same);
       }
 
-  pub passed-specification : (x : Identifier) (number : ℕ) (names : List ℕ) → number ≡ w.kinds + 1 → names ≡ and_once w.specifications x.name
-      → v ≡ record w { specifications = names; kinds = number; made = v.made } → HasPassed all (after_specification b x) v
-  passed-specification x number names n s e =
+  pub passed-specification : (x : Identifier) (ts : List TypeName) (ds : List Transaction) → v.scope ≡ w.scope → v.all_bodies ≡ w.all_bodies → v.specifications ≡ and_once w.specifications x.name → v.bodies ≡ w.bodies → v.kinds ≡ w.kinds + 1
+      → HasPassed all (and_item t b (item.Specification x ts ds)) v
+  passed-specification x ts ds here others names bodies kinds =
       record {
-        scope = ap (λ (z : Progress). z.scope) e ∙ h.scope;
-        outside = ap (λ (z : Progress). z.scope.variables) e ∙ h.outside;
-        all_bodies = λ y. ap (λ (z : Progress). is_among z.all_bodies y) e ∙ h.all_bodies y;
-        specifications = λ y. ap (λ (z : Progress). is_among z.specifications y) e ∙ alike-more w.specifications b.specifications names x h.specifications s y;
-        bodies = λ y. ap (λ (z : Progress). is_among z.bodies y) e ∙ h.bodies y;
-        kinds = let k : v.kinds ≡ number = ap (λ (z : Progress). z.kinds) e in let same = h.kinds in omega (arith, k, n, same);
+        scope = here ∙ h.scope;
+        outside = ap (λ (s : Scope). s.variables) here ∙ h.outside;
+        all_bodies = λ y. ap (λ us. is_among us y) others ∙ h.all_bodies y;
+        specifications = alike-more w.specifications b.specifications v.specifications x h.specifications names;
+        bodies = still-alike w.bodies v.bodies b.bodies bodies h.bodies;
+        kinds = let same = h.kinds in omega (arith, kinds, same);
       }
 
-  pub passed-body : (x : Identifier) (xs : List Identifier) (block : List Statement) (names : List ℕ) → names ≡ and_once w.bodies x.name
-      → v ≡ record w { scope = with_sites w.scope (scope_after_body t w.scope x xs block); bodies = names; made = v.made } → HasPassed all (after_body t b x xs block) v
-  passed-body x xs block names s e =
-      let here : v.scope ≡ with_sites w.scope (scope_after_body t w.scope x xs block) = ap (λ (z : Progress). z.scope) e in
+  pub passed-body : (x : Identifier) (xs : List Identifier) (block : List Statement) → v.scope ≡ with_sites w.scope (scope_after_body t w.scope x xs block) → v.all_bodies ≡ w.all_bodies → v.specifications ≡ w.specifications
+      → v.bodies ≡ and_once w.bodies x.name → v.kinds ≡ w.kinds → HasPassed all (and_item t b (item.Body x xs block)) v
+  passed-body x xs block here others specifications names kinds =
       record {
         scope = here ∙ ap (λ s. with_sites s (scope_after_body t s x xs block)) h.scope;
         outside = ap (λ (s : Scope). s.variables) here ∙ h.outside;
-        all_bodies = λ y. ap (λ (z : Progress). is_among z.all_bodies y) e ∙ h.all_bodies y;
-        specifications = λ y. ap (λ (z : Progress). is_among z.specifications y) e ∙ h.specifications y;
-        bodies = λ y. ap (λ (z : Progress). is_among z.bodies y) e ∙ alike-more w.bodies b.bodies names x h.bodies s y;
-        kinds = let k : v.kinds ≡ w.kinds = ap (λ (z : Progress). z.kinds) e in let same = h.kinds in omega (arith, k, same);
+        all_bodies = λ y. ap (λ us. is_among us y) others ∙ h.all_bodies y;
+        specifications = still-alike w.specifications v.specifications b.specifications specifications h.specifications;
+        bodies = alike-more w.bodies b.bodies v.bodies x h.bodies names;
+        kinds = let same = h.kinds in omega (arith, kinds, same);
       }
+
+-- ---- each kind of item
+
+module _ (w v : Progress) (m n : Option FaultAt) where
+  pub goes-structure : (x : Identifier) (fs : List Field) → n ≡ noted m (faults (both (fresh (is_there (entry_at w.scope.structures_named x)) x) (structure w.scope x fs))) → v.scope ≡ after_structure w.scope x fs → Keeps w v → v.made ≡ w.made
+      → Goes w m (item.Structure x fs) v n
+  goes-structure x fs h here k made = λ all b passed. (
+    found-nothing (both (fresh (is_there (entry_at b.scope.structures_named x)) x) (structure b.scope x fs)) m n w.made v.made
+        (h ∙ ap (λ s. noted m (faults (both (fresh (is_there (entry_at s.structures_named x)) x) (structure s x fs)))) passed.scope) made,
+    passed-structure all w.text b w v passed x fs here k,
+  )
+
+  pub goes-enumeration : (x : Option Identifier) (cs : List Constant) → n ≡ noted m (faults (both (fresh_enumeration w.scope x) (constants w.scope cs))) → v.scope ≡ after_enumeration w.scope x cs → Keeps w v → v.made ≡ w.made
+      → Goes w m (item.Enumeration x cs) v n
+  goes-enumeration x cs h here k made = λ all b passed. (
+    found-nothing (both (fresh_enumeration b.scope x) (constants b.scope cs)) m n w.made v.made
+        (h ∙ ap (λ s. noted m (faults (both (fresh_enumeration s x) (constants s cs)))) passed.scope) made,
+    passed-enumeration all w.text b w v passed x cs here k,
+  )
+
+  pub goes-function : (of : TypeName) (x : Identifier) (ps : List Parameter) (block : List Statement) → n ≡ noted m (faults (function_judged w.text w.scope of x ps block)) → Makes w.made (function_judged w.text w.scope of x ps block) v.made
+      → v.scope ≡ after_function w.scope x (meaning_at w.scope x) → Keeps w v → Goes w m (item.Function of x ps block) v n
+  goes-function of x ps block h made here k = λ all b passed. (
+    found-as (function w.text b.scope of x ps block) (function_judged w.text w.scope of x ps block) m n w.made v.made (sym (function-is all b w passed w.text of x ps block)) h made,
+    passed-function all w.text b w v passed of x ps block here k,
+  )
+
+  pub goes-body : (x : Identifier) (xs : List Identifier) (block : List Statement) (taken : Bool) → taken ≡ is_among w.bodies x.name → n ≡ noted m (faults (body_judged w.text taken w.scope x xs block)) → Makes w.made (body_judged w.text taken w.scope x xs block) v.made
+      → v.scope ≡ with_sites w.scope (scope_after_body w.text w.scope x xs block) → v.all_bodies ≡ w.all_bodies → v.specifications ≡ w.specifications → v.bodies ≡ and_once w.bodies x.name → v.kinds ≡ w.kinds
+      → Goes w m (item.Body x xs block) v n
+  goes-body x xs block taken e h made here others specifications names kinds = λ all b passed. (
+    found-as (body w.text b x xs block) (body_judged w.text taken w.scope x xs block) m n w.made v.made (sym (body-is all b w passed w.text x xs block taken e)) h made,
+    passed-body all w.text b w v passed x xs block here others specifications names kinds,
+  )
+
+  pub goes-specification : (x : Identifier) (ts : List TypeName) (ds : List Transaction) (u : Specified) (taken there : Bool) (number : ℕ)
+      → u ≡ record { number = number; name = x; taken = taken; there = there } → taken ≡ is_among w.specifications x.name → there ≡ is_among w.all_bodies x.name → number ≡ w.kinds + 1
+      → n ≡ noted m (faults (specification_judged u w.scope ts ds)) → Makes w.made (specification_judged u w.scope ts ds) v.made
+      → v.scope ≡ w.scope → v.all_bodies ≡ w.all_bodies → v.specifications ≡ and_once w.specifications x.name → v.bodies ≡ w.bodies → v.kinds ≡ number
+      → Goes w m (item.Specification x ts ds) v n
+  goes-specification x ts ds u taken there number e f g i h made here others names bodies kinds = λ all b passed. (
+    found-as (specification all b x ts ds) (specification_judged u w.scope ts ds) m n w.made v.made (sym (specification-is all b w passed u x ts ds taken there number e f g i)) h made,
+    passed-specification all w.text b w v passed x ts ds here others names bodies (kinds ∙ i),
+  )

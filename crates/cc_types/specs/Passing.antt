@@ -3,10 +3,10 @@ use Rattle.std.specs.Prelude.{◌≡◌, ℕ, ◌+◌, Bool, ◌++◌, if◌then
 use Rattle.cc_typed.specs.declared.tree.Statement.{Statement as TypedStatement}
 use Rattle.cc_typed.specs.declared.tree.Transaction.{Transaction as TypedTransaction}
 use Rattle.cc_typed.specs.declared.types.DataType.{DataType}
-use Rattle.cc_faults.specs.Declarations.{and_name, items_scope, parameters, signature, transaction_signature}
+use Rattle.cc_faults.specs.Declarations.{items_scope, parameters, signature, transaction_signature}
 use Rattle.cc_faults.specs.Faults.{noted}
 use Rattle.cc_faults.specs.Judged.{Judged, Good, after_each, both, each_after, faults, map, second}
-use Rattle.cc_faults.specs.Programs.{Passed, Piece, after_body as scope_after_body, and_item, and_transaction, body_made, body_role, body_types, few_for_main, function_made, has_body, in_body, in_function, item_in, kind_of_body, names_in, names_once, role_of, specification_made, transaction, transaction_made, with_sites}
+use Rattle.cc_faults.specs.Programs.{Passed, Piece, and_item, and_transaction, body_made, body_role, body_types, few_for_main, function_made, has_body, in_body, in_function, item_in, kind_of_body, names_in, names_once, role_of, specification_made, transaction, transaction_made}
 use Rattle.cc_faults.specs.Rows.{fresh, with_body}
 use Rattle.cc_faults.specs.Scopes.{Scope, Text, is_among, is_here, meaning_at, outermost}
 use Rattle.cc_faults.specs.declared.fault.FaultAt.{FaultAt}
@@ -107,12 +107,10 @@ and_made m d = record m { transactions = m.transactions ++ d ∷ [] }
 abbrev pub IsFound : Option FaultAt → Made → Judged Piece → Option FaultAt → Made → Type 0
 IsFound m a j n b = (n ≡ noted m (faults j)) × Makes a j b
 
-abbrev pub after_specification : Passed → Identifier → Passed
-after_specification b x = record b { specifications = and_name b.specifications x; kinds = b.kinds + 1 }
-
-abbrev pub after_body : Text → Passed → Identifier → List Identifier → List Statement → Passed
-after_body t b x xs block =
-    record b { scope = with_sites b.scope (scope_after_body t b.scope x xs block); bodies = and_name b.bodies x }
+-- from what stands before an item to what stands behind it
+abbrev pub Goes : Progress → Option FaultAt → Item → Progress → Option FaultAt → Type 0
+Goes w m i v n =
+    (all : List Item) (b : Passed) → HasPassed all b w → IsFound m w.made (item_in w.text all b i) n v.made × HasPassed all (and_item w.text b i) v
 
 -- what is noted of items, and what they add where none has a fault
 abbrev pub AreFound : Text → List Item → Passed → Option FaultAt → Made → Option FaultAt → Made → Type 0

@@ -1,20 +1,19 @@
 //! What is found of the items of a text, one after the other.
 
-ghost use Rattle.std.specs.Prelude.{◌≡◌, ◌+◌, List, IfOk, OnOk};
-ghost use Rattle.cc_faults.specs.Declarations as declaration;
-ghost use Rattle.cc_faults.specs.Faults.{noted};
-ghost use Rattle.cc_faults.specs.Judged.{Good, after_each, each_after, faults};
+ghost use Rattle.std.specs.Prelude.{◌≡◌, ◌+◌, [], IfOk, OnOk};
+ghost use Rattle.cc_faults.specs.Judged.{after_each};
 ghost use Rattle.cc_faults.specs.Programs as program;
-ghost use Rattle.cc_faults.specs.Programs.{Passed, Piece};
-ghost use Rattle.cc_faults.specs.declared.plain.Item as plain;
-ghost use Rattle.cc_types.specs.Making.{Makes, with_piece};
+ghost use Rattle.cc_faults.specs.Programs.{Passed};
+ghost use Rattle.cc_faults.specs.declared.plain.Item.TheVariants as plain;
 ghost use Rattle.cc_types.specs.Passing as passing;
-ghost use Rattle.cc_types.specs.Passing.{HasPassed};
+ghost use Rattle.cc_types.specs.Passing.{Goes, HasPassed};
 
 use crate::progress::Progress;
 use crate::specifications::Specified;
 use cc_base::Memory;
-use cc_faults::{Identifier, Item, Least, Statement, Transaction, TypeName};
+use cc_faults::{
+    Constant, Field, Identifier, Item, Least, Parameter, Statement, Transaction, TypeName,
+};
 
 /// A number more, in 32 bits.
 fn one_more(number: u32) -> Result<u32, Memory>
@@ -27,6 +26,28 @@ fn one_more(number: u32) -> Result<u32, Memory>
 }
 
 impl Progress<'_> {
+    /// A structure.
+    fn structure(
+        &mut self,
+        least: &mut Least,
+        x: Identifier,
+        fields: &[Field],
+    ) -> Result<(), Memory>
+        ensures goes { OnOk result (Goes self.old least.old (plain.Structure x fields.now) self.new least.new) }
+        ensures text { self.new.text ≡ self.old.text }
+    {
+        self.checker.structure(least, x, fields)?;
+        Ok(())
+    }
+
+    /// An enumeration.
+    fn enumeration(&mut self, least: &mut Least, x: Option<Identifier>, constants: &[Constant])
+        ensures goes { Goes self.old least.old (plain.Enumeration x constants.now) self.new least.new }
+        ensures text { self.new.text ≡ self.old.text }
+    {
+        self.checker.enumeration(least, x, constants);
+    }
+
     /// A process type.
     fn specification(
         &mut self,
@@ -35,8 +56,7 @@ impl Progress<'_> {
         types: &[TypeName],
         transactions: &[Transaction],
     ) -> Result<(), Memory>
-        ensures found { OnOk result ((all : List plain.Item) (b : Passed) → HasPassed all b self.old → passing.IsFound least.old self.old.made (program.specification all b x types.now transactions.now) least.new self.new.made) }
-        ensures passed { OnOk result ((all : List plain.Item) (b : Passed) → HasPassed all b self.old → HasPassed all (passing.after_specification b x) self.new) }
+        ensures goes { OnOk result (Goes self.old least.old (plain.Specification x types.now transactions.now) self.new least.new) }
         ensures text { self.new.text ≡ self.old.text }
     {
         let number = one_more(self.kinds)?;
@@ -62,9 +82,8 @@ impl Progress<'_> {
         names: &[Identifier],
         block: &[Statement],
     ) -> Result<(), Memory>
-        requires passed { (all : List plain.Item) × (b : Passed) × HasPassed all b self.old }
-        ensures found { OnOk result ((all : List plain.Item) (b : Passed) → HasPassed all b self.old → passing.IsFound least.old self.old.made (program.body self.old.text b x names.now block.now) least.new self.new.made) }
-        ensures passed { OnOk result ((all : List plain.Item) (b : Passed) → HasPassed all b self.old → HasPassed all (passing.after_body self.old.text b x names.now block.now) self.new) }
+        requires outside { self.old.scope.variables ≡ [] }
+        ensures goes { OnOk result (Goes self.old least.old (plain.Body x names.now block.now) self.new least.new) }
         ensures text { self.new.text ≡ self.old.text }
     {
         let taken = self.bodies.see(x.name)?;
@@ -73,46 +92,57 @@ impl Progress<'_> {
         Ok(())
     }
 
-    /// What is found of an item.
-    fn item(&mut self, least: &mut Least, item: &Item) -> Result<(), Memory>
-        requires passed { (all : List plain.Item) × (b : Passed) × HasPassed all b self.old }
-        ensures found { OnOk result ((all : List plain.Item) (b : Passed) → HasPassed all b self.old → passing.IsFound least.old self.old.made (program.item_in self.old.text all b item.now) least.new self.new.made) }
-        ensures passed { OnOk result ((all : List plain.Item) (b : Passed) → HasPassed all b self.old → HasPassed all (program.and_item self.old.text b item.now) self.new) }
+    /// A function, or `main`.
+    fn function(
+        &mut self,
+        least: &mut Least,
+        of: TypeName,
+        x: Identifier,
+        parameters: &[Parameter],
+        block: &[Statement],
+    ) -> Result<(), Memory>
+        requires outside { self.old.scope.variables ≡ [] }
+        ensures goes { OnOk result (Goes self.old least.old (plain.Function of x parameters.now block.now) self.new least.new) }
         ensures text { self.new.text ≡ self.old.text }
     {
-        let alloc = self.checker.alloc;
+        self.checker
+            .function(least, &mut self.made, of, x, parameters, block)?;
+        Ok(())
+    }
+
+    /// What is found of an item.
+    fn item(&mut self, least: &mut Least, item: &Item) -> Result<(), Memory>
+        requires outside { self.old.scope.variables ≡ [] }
+        ensures goes { OnOk result (Goes self.old least.old item.now self.new least.new) }
+        ensures text { self.new.text ≡ self.old.text }
+    {
         match item {
-            Item::Structure { name, fields } => {
-                let visible = &mut self.checker.visible;
-                visible.structure(alloc, least, *name, fields.as_slice())?;
-            }
+            Item::Structure { name, fields } => self.structure(least, *name, fields.as_slice()),
             Item::Enumeration { name, constants } => {
-                let visible = &mut self.checker.visible;
-                visible.enumeration(least, *name, constants.as_slice());
+                self.enumeration(least, *name, constants.as_slice());
+                Ok(())
             }
             Item::Specification {
                 name,
                 parameters,
                 transactions,
-            } => self.specification(least, *name, parameters.as_slice(), transactions.as_slice())?,
+            } => self.specification(least, *name, parameters.as_slice(), transactions.as_slice()),
             Item::Body { name, names, block } => {
-                self.body(least, *name, names.as_slice(), block.as_slice())?;
+                self.body(least, *name, names.as_slice(), block.as_slice())
             }
             Item::Function {
                 result,
                 name,
                 parameters,
                 block,
-            } => self.checker.function(
+            } => self.function(
                 least,
-                &mut self.made,
                 *result,
                 *name,
                 parameters.as_slice(),
                 block.as_slice(),
-            )?,
+            ),
         }
-        Ok(())
     }
 
     /// What is found of items in their order.

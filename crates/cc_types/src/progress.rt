@@ -20,12 +20,13 @@ pub(crate) struct Progress<'t> {
 
 impl<'t> Model for Progress<'t> {
     ghost use Rattle.cc_typed.specs.contracts.tree.Expression as expression;
+    ghost use Rattle.cc_typed.specs.contracts.tree.Statement as statement;
     ghost use Rattle.cc_types.specs.Passing.{Progress};
     ghost use Rattle.std.specs.Coded.{codes};
 
     ghost Value = { Progress };
 
-    ghost coded = { Prim.hlevel (codes, expression.the_row.coded) };
+    ghost coded = { Prim.hlevel (codes, expression.the_row.coded, statement.the_row.coded) };
 
     ghost view = { λ p. record { text = p.checker.text; scope = p.checker.scope; made = p.made; all_bodies = p.all_bodies; specifications = p.specifications; bodies = p.bodies; kinds = p.kinds } };
 }
