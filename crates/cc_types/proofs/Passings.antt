@@ -1,12 +1,12 @@
 -- How the checker goes from one item to the next.
-use Rattle.std.proofs.Common.{◌≡◌, ℕ, suc, ◌+◌, ◌<◌, Bool, true, false, ◌||◌, List, [], ◌∷◌, ◌++◌, length, take, get_or, Option, Some, None, Result, refl, ap, sym, ◌∙◌, arith}
+use Rattle.std.proofs.Common.{◌≡◌, ℕ, suc, ◌+◌, ◌<◌, Bool, true, false, ◌||◌, List, [], ◌∷◌, ◌++◌, length, take, get_or, Option, Some, None, Result, refl, ap, sym, subst, ◌∙◌, arith}
 use Rattle.std.proofs.lemmas.Bool.{eqb-true}
 use Rattle.std.specs.Prelude.{if◌then◌else◌, nat_eq}
 use Rattle.cc_typed.specs.declared.tree.Transaction.{Transaction as TypedTransaction}
 use Rattle.cc_typed.specs.declared.types.DataType.{DataType}
 use Rattle.cc_typed.specs.declared.types.Structure.{Structure}
 use Rattle.cc_declared.specs.Lists.{and_once}
-use Rattle.cc_faults.proofs.Judged.{faults-map, loop-after, loop-noted_after, noted-both}
+use Rattle.cc_faults.proofs.Judged.{after-nil, faults-map, loop-after, loop-noted_after, noted-both}
 use Rattle.cc_faults.specs.Declarations.{Before, after_constants, after_enumeration, after_function, after_structure, and_constant, and_name, before_constants, constant_meaning, constant_value, constants, int_type, is_async, items_scope, named_enumeration, next_structure, parameters, signature, structure, transaction_signature, with_enumeration_name, with_structure, with_structure_name}
 use Rattle.cc_faults.specs.Faults.{noted}
 use Rattle.cc_faults.specs.Judged.{Judged, Good, after_each, answer, both, each_after, faults, found, map, outcome, second}
@@ -28,7 +28,7 @@ use Rattle.cc_faults.specs.declared.scope.Meaning.{Meaning}
 use Rattle.cc_faults.specs.declared.scope.Named.{Named}
 use Rattle.cc_faults.specs.declared.scope.Signature.{Signature}
 use Rattle.cc_types.proofs.Judging.{after_in-is, judged_in-is}
-use Rattle.cc_types.proofs.Makings.{good-map, loop-makes, specification-makes}
+use Rattle.cc_types.proofs.Makings.{good-map, loop-makes, specification-makes, start-makes, start-noted}
 use Rattle.cc_types.specs.Making.{Makes, with_piece, with_transaction}
 use Rattle.cc_types.specs.Passing.{AreAlike, Goes, HasPassed, IsFound, Progress, after_block, and_made, block_judged, body_judged, function_judged, specification_judged, transaction_judged, transactions_judged}
 use Rattle.cc_types.specs.declared.made.Made.{Made}
@@ -302,3 +302,30 @@ module _ (w v : Progress) (m n : Option FaultAt) where
     found-as (specification all b x ts ds) (specification_judged u w.scope ts ds) m n w.made v.made (sym (specification-is all b w passed u x ts ds taken there number e f g i)) h made,
     passed-specification all w.text b w v passed x ts ds here others names bodies (kinds ∙ i),
   )
+
+-- ---- items, one after the other
+
+module _ (all : List Item) (t : Text) (m : Option FaultAt) (a : Made) where
+  -- what is found of the items up to here
+  abbrev pub FoundSoFar : Passed → List Item → Option FaultAt → Made → Type 0
+  FoundSoFar b items n c =
+      (n ≡ noted m (faults (each_after (item_in t all) (and_item t) b items)))
+      × ((vs : List Piece) → each_after (item_in t all) (and_item t) b items ≡ Good vs → c ≡ after_each with_piece a vs)
+
+  pub found-start : (b : Passed) → FoundSoFar b [] m a
+  found-start b = (start-noted (item_in t all) (and_item t) b m, start-makes (item_in t all) (and_item t) b with_piece a)
+
+  pub found-more : (b : Passed) (i : ℕ) (x : Item) (n o : Option FaultAt) (c d : Made) → i < length all → x ≡ get_or all i x → FoundSoFar b (take i all) n c
+      → IsFound n c (item_in t all (after_each (and_item t) b (take i all)) x) o d
+      → FoundSoFar b (take (i + 1) all) o d
+  found-more b i x n o c d lt is before one = (
+    loop-noted_after (item_in t all) (and_item t) b (after_each (and_item t) b (take i all)) all i x m n o lt is refl before.0 one.0,
+    loop-makes (item_in t all) (and_item t) with_piece a b (after_each (and_item t) b (take i all)) all i x c d lt is refl before.1 one.1,
+  )
+
+  pub passed-more : (b : Passed) (i : ℕ) (x : Item) (v : Progress) → i < length all → x ≡ get_or all i x → HasPassed all (and_item t (after_each (and_item t) b (take i all)) x) v → HasPassed all (after_each (and_item t) b (take (i + 1) all)) v
+  passed-more b i x v lt is h =
+      subst (λ z. HasPassed all z v) (sym (loop-after (and_item t) b (after_each (and_item t) b (take i all)) all i x lt is refl)) h
+
+  pub passed-start : (b : Passed) (w : Progress) → HasPassed all b w → HasPassed all (after_each (and_item t) b []) w
+  passed-start b w h = subst (λ z. HasPassed all z w) (sym (after-nil (and_item t) b)) h
