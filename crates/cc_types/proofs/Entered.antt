@@ -1,7 +1,6 @@
 -- Functions and bodies, as the code goes through them.
 use Rattle.std.proofs.Common.{◌≡◌, ℕ, Bool, true, false, List, [], length, Option, Result, ap, sym, subst, ◌∙◌}
 use Rattle.std.specs.Prelude.{if◌then◌else◌}
-use Rattle.cc_typed.specs.declared.tree.Statement.{Statement as TypedStatement}
 use Rattle.cc_typed.specs.declared.types.DataType.{DataType}
 use Rattle.cc_declared.proofs.Firsts.{outcome-map}
 use Rattle.cc_declared.proofs.Laws.{undone-nil}
@@ -12,7 +11,7 @@ use Rattle.cc_faults.proofs.Judged.{faults-map, noted-both}
 use Rattle.cc_faults.specs.Declarations.{items_scope, signature}
 use Rattle.cc_faults.specs.Faults.{noted}
 use Rattle.cc_faults.specs.Judged.{Judged, answer, both, faults, map, outcome}
-use Rattle.cc_faults.specs.Programs.{Piece, after_body as scope_after_body, body_made, body_role, body_types, few_for_main, function_made, in_body, in_function, kind_of_body, names_in, names_once, result_of, role_of, with_sites}
+use Rattle.cc_faults.specs.Programs.{after_body as scope_after_body, body_made, body_role, body_types, few_for_main, function_made, in_body, in_function, kind_of_body, names_in, names_once, result_of, role_of, with_sites}
 use Rattle.cc_faults.specs.Rows.{fresh, with_specification}
 use Rattle.cc_faults.specs.Scopes.{Scope, Text, entry_at, is_here, meaning_at, outermost}
 use Rattle.cc_faults.specs.declared.fault.FaultAt.{FaultAt}

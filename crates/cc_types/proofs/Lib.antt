@@ -4,6 +4,5 @@ pub mod Naming
 pub mod Clauses
 pub mod Stays
 pub mod Makings
-pub mod Wholes
 pub mod Entered
 pub mod Passings

@@ -1,7 +1,7 @@
 -- What code adds of items is what the definition finds, where it finds no fault.
-use Rattle.std.proofs.Common.{◌≡◌, ℕ, ◌+◌, ◌<◌, Bool, true, false, List, [], ◌∷◌, ◌++◌, length, take, get_or, Option, Some, None, Result, Ok, Err, refl, ap, sym, ◌∙◌, append-nil, append_assoc}
+use Rattle.std.proofs.Common.{◌≡◌, ℕ, ◌+◌, ◌<◌, Bool, true, false, List, [], ◌∷◌, ◌++◌, length, take, get_or, Option, Some, None, Result, refl, ap, sym, ◌∙◌, append-nil, append_assoc}
 use Rattle.std.proofs.lemmas.List.{take_more}
-use Rattle.std.specs.Prelude.{if◌then◌else◌, nat_eq}
+use Rattle.std.specs.Prelude.{if◌then◌else◌}
 use Rattle.cc_typed.specs.declared.tree.Statement.{Statement as TypedStatement}
 use Rattle.cc_typed.specs.declared.tree.Transaction.{Transaction as TypedTransaction}
 use Rattle.cc_typed.specs.declared.types.DataType.{DataType}
@@ -9,7 +9,7 @@ use Rattle.cc_faults.specs.Declarations.{is_async}
 use Rattle.cc_faults.specs.Faults.{noted}
 use Rattle.cc_faults.specs.Judged.{Judged, Good, Bad, after_each, answer, both, each_after, faults, in_front, map, outcome, second}
 use Rattle.cc_faults.proofs.Judged.{after-more, answer-Good}
-use Rattle.cc_faults.specs.Programs.{Piece, OneFunction, OneKind, body_made, function_made, specification_made, transaction_made}
+use Rattle.cc_faults.specs.Programs.{OneFunction, OneKind, body_made, function_made, specification_made, transaction_made}
 use Rattle.cc_faults.specs.Rows.{with_specification}
 use Rattle.cc_faults.specs.declared.answer.Answer.TheVariants as an
 use Rattle.cc_faults.specs.declared.fault.FaultAt.{FaultAt}

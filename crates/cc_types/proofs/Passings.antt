@@ -7,13 +7,13 @@ use Rattle.cc_typed.specs.declared.types.DataType.{DataType}
 use Rattle.cc_typed.specs.declared.types.Structure.{Structure}
 use Rattle.cc_declared.specs.Lists.{and_once}
 use Rattle.cc_faults.proofs.Judged.{after-nil, faults-map, loop-after, loop-noted_after, noted-both}
-use Rattle.cc_faults.specs.Declarations.{Before, after_constants, after_enumeration, after_function, after_structure, and_constant, and_name, before_constants, constant_meaning, constant_value, constants, int_type, is_async, items_scope, named_enumeration, next_structure, parameters, signature, structure, transaction_signature, with_enumeration_name, with_structure, with_structure_name}
+use Rattle.cc_faults.specs.Declarations.{Before, after_constants, after_enumeration, after_function, after_structure, and_constant, and_name, before_constants, constant_meaning, constant_value, constants, int_type, items_scope, named_enumeration, next_structure, parameters, signature, structure, with_enumeration_name, with_structure, with_structure_name}
 use Rattle.cc_faults.specs.Faults.{noted}
-use Rattle.cc_faults.specs.Judged.{Judged, Good, after_each, answer, both, each_after, faults, found, map, outcome, second}
-use Rattle.cc_faults.specs.Programs.{Passed, Piece, NoPiece, after_body as scope_after_body, and_item, and_transaction, body, body_made, body_role, body_types, few_for_main, fresh_enumeration, function, function_made, has_body, in_body, in_function, item_in, kind_of_body, names_in, names_once, no_piece, role_of, specification, specification_made, transaction, transaction_made, with_sites}
+use Rattle.cc_faults.specs.Judged.{Judged, Good, after_each, both, each_after, faults, found, map, outcome, second}
+use Rattle.cc_faults.specs.Programs.{Passed, Piece, after_body as scope_after_body, and_item, and_transaction, body, body_made, body_role, body_types, few_for_main, fresh_enumeration, function, function_made, has_body, in_body, in_function, item_in, kind_of_body, names_in, names_once, no_piece, role_of, specification, specification_made, transaction, with_sites}
 use Rattle.cc_faults.specs.Rows.{fresh, with_body as there_is_body}
 use Rattle.cc_faults.specs.Scopes.{Scope, Text, entry_at, is_among, is_here, is_there, meaning_at, outermost, with_name}
-use Rattle.cc_faults.specs.Statements.{after_in, judged_in}
+use Rattle.cc_faults.specs.Statements.{after_in}
 use Rattle.cc_faults.specs.declared.fault.FaultAt.{FaultAt}
 use Rattle.cc_faults.specs.declared.plain.Constant.{Constant}
 use Rattle.cc_faults.specs.declared.plain.Field.{Field}
@@ -26,11 +26,10 @@ use Rattle.cc_faults.specs.declared.plain.Transaction.{Transaction}
 use Rattle.cc_faults.specs.declared.plain.TypeName.{TypeName}
 use Rattle.cc_faults.specs.declared.scope.Meaning.{Meaning}
 use Rattle.cc_faults.specs.declared.scope.Named.{Named}
-use Rattle.cc_faults.specs.declared.scope.Signature.{Signature}
 use Rattle.cc_types.proofs.Judging.{after_in-is, judged_in-is}
 use Rattle.cc_types.proofs.Makings.{good-map, loop-makes, specification-makes, start-makes, start-noted}
-use Rattle.cc_types.specs.Making.{Makes, with_piece, with_transaction}
-use Rattle.cc_types.specs.Passing.{AreAlike, Goes, HasPassed, IsFound, Progress, after_block, and_made, block_judged, body_judged, function_judged, specification_judged, transaction_judged, transactions_judged}
+use Rattle.cc_types.specs.Making.{Makes, with_piece}
+use Rattle.cc_types.specs.Passing.{AreAlike, Goes, HasPassed, IsFound, Progress, and_made, block_judged, body_judged, function_judged, specification_judged, transaction_judged, transactions_judged}
 use Rattle.cc_types.specs.declared.made.Made.{Made}
 use Rattle.cc_types.specs.declared.specifications.Specified.{Specified}
 

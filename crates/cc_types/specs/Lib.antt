@@ -5,4 +5,3 @@ pub mod Judging
 pub mod Naming
 pub mod Making
 pub mod Passing
-pub mod Finding

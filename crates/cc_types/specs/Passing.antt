@@ -1,5 +1,5 @@
 -- How far the checker has come through the items of a text.
-use Rattle.std.specs.Prelude.{◌≡◌, ℕ, ◌+◌, Bool, ◌++◌, if◌then◌else◌, nat_eq, List, [], ◌∷◌, length, Option, Result}
+use Rattle.std.specs.Prelude.{◌≡◌, ℕ, Bool, ◌++◌, if◌then◌else◌, nat_eq, List, [], ◌∷◌, length, Option, Result}
 use Rattle.cc_typed.specs.declared.tree.Statement.{Statement as TypedStatement}
 use Rattle.cc_typed.specs.declared.tree.Transaction.{Transaction as TypedTransaction}
 use Rattle.cc_typed.specs.declared.types.DataType.{DataType}

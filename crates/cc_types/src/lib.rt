@@ -6,7 +6,6 @@
 mod accepts;
 mod checker;
 mod expressions;
-mod fault;
 mod functions;
 mod items;
 mod locals;
@@ -16,9 +15,6 @@ mod scene;
 mod sites;
 mod specifications;
 mod statements;
-mod text_parts;
 
 pub use checker::Checker;
-pub use fault::TypeError;
 pub use scene::Scene;
-pub use text_parts::parts;

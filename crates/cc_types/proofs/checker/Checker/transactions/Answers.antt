@@ -1,8 +1,8 @@
-use Rattle.std.proofs.Common.{rules, ◌≡◌, ◌∙◌, ap, sym, arith, [], length, take, refl}
+use Rattle.std.proofs.Common.{◌≡◌, ◌∙◌, ap, sym, arith, [], take}
 use Rattle.std.proofs.lemmas.List.{take_all}
 use Rattle.cc_faults.proofs.Judged.{after-nil}
 use Rattle.cc_faults.specs.Faults.{noted}
-use Rattle.cc_faults.specs.Judged.{Good, after_each, each_after, faults}
+use Rattle.cc_faults.specs.Judged.{each_after, faults}
 use Rattle.cc_faults.specs.Programs.{and_transaction, transaction}
 use Rattle.cc_faults.specs.Scopes.{is_among}
 use Rattle.cc_types.proofs.Makings.{start-makes, start-noted, transactions-made}

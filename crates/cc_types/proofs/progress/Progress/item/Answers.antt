@@ -1,4 +1,4 @@
-use Rattle.std.proofs.Common.{rules, ◌≡◌, ap, sym, ◌∙◌, subst}
+use Rattle.std.proofs.Common.{rules, ◌≡◌, subst}
 use Rattle.std.specs.Prelude.{OnOk}
 use Rattle.cc_faults.specs.declared.plain.Item.{Item}
 use Rattle.cc_faults.specs.declared.plain.Item.TheVariants as plain

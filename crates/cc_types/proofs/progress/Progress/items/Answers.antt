@@ -1,10 +1,10 @@
-use Rattle.std.proofs.Common.{◌≡◌, ◌∙◌, ap, sym, arith, refl, subst, take, length}
+use Rattle.std.proofs.Common.{◌≡◌, ◌∙◌, arith, refl, subst, take}
 use Rattle.std.proofs.lemmas.List.{take_all}
 use Rattle.cc_faults.specs.Judged.{after_each}
 use Rattle.cc_faults.specs.Programs.{and_item, item_in}
 use Rattle.cc_faults.specs.Scopes.{Text}
 use Rattle.cc_types.proofs.Passings.{FoundSoFar, found-more, found-start, passed-more, passed-start}
-use Rattle.cc_types.specs.Passing.{Goes, HasPassed, IsFound}
+use Rattle.cc_types.specs.Passing.{HasPassed, IsFound}
 use Rattle.cc_types.proofs.progress.Progress.items.Goals as goal
 
 pub loop-item-init : goal.loop-item-init

@@ -1,4 +1,4 @@
-use Rattle.std.proofs.Common.{rules, refl}
+use Rattle.std.proofs.Common.{rules}
 use Rattle.cc_types.proofs.Passings.{goes-structure}
 use Rattle.cc_types.proofs.progress.Progress.structure.Goals as goal
 
