@@ -9,8 +9,17 @@ use crate::names::Hidden;
 use crate::visible::Visible;
 use cc_base::Memory;
 use cc_faults::Parameter;
+use cc_typed::{DataType, Site, Structure};
 use sqlite_items::Items;
 use std::alloc::Global;
+use std::mem;
+
+/// The structures and the accepts of a text.
+#[derive(Drop)]
+pub struct Tables {
+    pub structures: Items<Structure>,
+    pub sites: Items<Site>,
+}
 
 /// The scope of the parameters and of the outermost block of a function or body.
 pub(crate) const OUTERMOST_SCOPE: u32 = 2;
@@ -21,6 +30,25 @@ impl Visible {
         ensures { self.new ≡ spec.no_variables self.old }
     {
         self.variables = Items::new(alloc);
+    }
+
+    /// The types of the variables so far, of which none is left here.
+    pub fn take_variables(&mut self, alloc: Global) -> Items<DataType>
+        ensures variables { result ≡ self.old.variables }
+        ensures left { self.new ≡ spec.no_variables self.old }
+    {
+        mem::replace(&mut self.variables, Items::new(alloc))
+    }
+
+    /// The structures and the accepts so far, when all is read.
+    pub fn into_tables(self) -> Tables
+        ensures structures { result.structures ≡ self.structures }
+        ensures sites { result.sites ≡ self.sites }
+    {
+        Tables {
+            structures: self.structures,
+            sites: self.sites,
+        }
     }
 
     /// Declares a parameter with the type that is written, or with the first fault of that.

@@ -26,6 +26,7 @@ mod written;
 
 pub use announced::at_start;
 pub use bodies::names_once;
+pub use functions::Tables;
 pub use known::{Known, text_of};
 pub use names::Hidden;
 pub use seen::Seen;

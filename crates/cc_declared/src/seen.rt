@@ -42,6 +42,13 @@ impl Seen {
         Ok(!is_new)
     }
 
+    /// Whether a name was seen.
+    pub fn contains(&self, name: u32) -> bool
+        ensures contains { result ≡ is_among self.now name }
+    {
+        self.set.contains(&name)
+    }
+
     /// How many other names were seen before a name; none where it wasn't seen. A number that 32 bits don't hold is out of memory.
     pub fn position(&self, name: u32) -> Result<Option<u32>, Memory>
         ensures position { IfOk result (λ at. at ≡ position self.now name) }

@@ -3,3 +3,5 @@ pub mod Parts
 pub mod Checkers
 pub mod Judging
 pub mod Naming
+pub mod Making
+pub mod Passing

@@ -1,12 +1,18 @@
 //! The checker as it goes through the statements of a text.
 
-ghost use Rattle.std.specs.Prelude.{◌≡◌, IfOk, length};
+ghost use Rattle.std.specs.Prelude.{◌≡◌, IfOk, OnOk, length};
 ghost use Rattle.cc_declared.specs.Undone.{undone};
+ghost use Rattle.cc_faults.specs.Declarations as declaration;
+ghost use Rattle.cc_faults.specs.Faults.{noted};
+ghost use Rattle.cc_faults.specs.Judged.{both, faults};
+ghost use Rattle.cc_faults.specs.Programs.{fresh_enumeration};
+ghost use Rattle.cc_faults.specs.Rows as row;
+ghost use Rattle.cc_faults.specs.Scopes.{entry_at, is_there};
 
 use crate::scene::Scene;
 use cc_base::Memory;
 use cc_declared::{Hidden, Known, Visible};
-use cc_faults::Around;
+use cc_faults::{Around, Constant, Field, Identifier, Least};
 use sqlite_items::Items;
 use std::alloc::Global;
 use std::marker::Model;
@@ -75,6 +81,36 @@ impl<'t> Checker<'t> {
         ensures text { self.new.text ≡ self.old.text }
     {
         self.visible.restore(hidden);
+    }
+}
+
+impl Checker<'_> {
+    /// A structure, which is visible behind its declaration.
+    pub(crate) fn structure(
+        &mut self,
+        least: &mut Least,
+        x: Identifier,
+        fields: &[Field],
+    ) -> Result<(), Memory>
+        ensures noted { OnOk result (least.new ≡ noted least.old (faults (both (row.fresh (is_there (entry_at self.old.scope.structures_named x)) x) (declaration.structure self.old.scope x fields.now)))) }
+        ensures after { OnOk result (self.new.scope ≡ declaration.after_structure self.old.scope x fields.now) }
+        ensures text { self.new.text ≡ self.old.text }
+    {
+        self.visible.structure(self.alloc, least, x, fields)
+    }
+
+    /// An enumeration, which is visible behind its declaration.
+    pub(crate) fn enumeration(
+        &mut self,
+        least: &mut Least,
+        x: Option<Identifier>,
+        constants: &[Constant],
+    )
+        ensures noted { least.new ≡ noted least.old (faults (both (fresh_enumeration self.old.scope x) (declaration.constants self.old.scope constants.now))) }
+        ensures after { self.new.scope ≡ declaration.after_enumeration self.old.scope x constants.now }
+        ensures text { self.new.text ≡ self.old.text }
+    {
+        self.visible.enumeration(least, x, constants);
     }
 }
 
